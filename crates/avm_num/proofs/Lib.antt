@@ -1,0 +1,5 @@
+pub mod Numbers
+pub mod Fields
+pub mod Loops
+pub mod Walks
+pub mod Writes
