@@ -16,3 +16,9 @@ pub mod LmsDigits
 pub mod LmsOts
 pub mod LmsTree
 pub mod LmsValid
+pub mod Head
+pub mod Bounds
+pub mod HeadReading
+pub mod HeadState
+pub mod Pages
+pub mod Root
