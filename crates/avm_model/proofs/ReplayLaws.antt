@@ -33,6 +33,7 @@ quiet_law m law (suc k) s = go (quiet_law m law k) (m.step s) refl
     out : (t : _) (os : _) → m.step s ≡ Some (t, os) → Quiet m k t (quiet m k t) → Quiet m (suc k) s (quiet_out (quiet m k) t os)
     out t [] e ih = let c = law.steps s t [] e in record { low = omega (arith, ih.low); high = omega (arith, ih.high); fresh = ih.fresh }
     out t (o ∷ os) e ih = let c = law.steps s t (o ∷ os) e in record { low = omega arith; high = omega arith; fresh = law.stamps s t (o ∷ os) e }
+
     go : ((t : _) → Quiet m k t (quiet m k t)) → (r : _) → m.step s ≡ r → Quiet m (suc k) s (quiet_step (quiet m k) s r)
     go ih None e = record { low = omega arith; high = omega arith; fresh = tt }
     go ih (Some r) e = out r.0 r.1 e (ih r.0)
@@ -144,6 +145,7 @@ quiet_run m law (suc k) (suc d) c s is le below h =
     out ih t (o ∷ os) e y =
         let n = law.steps s t (o ∷ os) e in
         record { left = d; counts = omega arith; same = y }
+
     go : ((t : _) → (0 < k → m.count t + k ≤ c) → Passes m d (record { state = t; pending = [] }) (quiet m k t) is) → run m (suc d) s is ≡ after_taking m (suc d) s is → (r : _) → m.step s ≡ r → Passes m (suc d) (record { state = s; pending = [] }) (quiet_step (quiet m k) s r) is
     go ih yet None e = record { left = suc d; counts = refl; same = refl }
     go ih yet (Some r) e = out ih r.0 r.1 e (yet ∙ rw e refl)
@@ -160,12 +162,12 @@ front_settled : {S I O : Type 0} (m : Timed S I O) → IsTimed m → (e : Entry 
 front_settled {S} {I} {O} m law (made o) es q k d h more =
     let c = compare_is m law o q.state q.pending k h in
     subst (λ (ps : List O). IsFront (made o ∷ es) (outputs q.state ps ++ run m d q.state (inputs es))) (sym c.0)
-        (refl, subst (λ (t : S). IsFront es (outputs t k.pending ++ run m d t (inputs es))) (sym c.1) more)
+    (refl, subst (λ (t : S). IsFront es (outputs t k.pending ++ run m d t (inputs es))) (sym c.1) more)
 front_settled {S} {O} m law (given i) es q k d h more =
     let a = accept_is m i q.state q.pending k h in
     let more2 : IsFront es (run m d k.state (inputs es)) = subst (λ (ps : List O). IsFront es (outputs k.state ps ++ run m d k.state (inputs es))) a.2 more in
     subst (λ (ps : List O). IsFront (given i ∷ es) (outputs q.state ps ++ run m d q.state (i ∷ inputs es))) (sym a.0)
-        (subst (λ (r : Option S). IsFront (given i ∷ es) (taking_one r i (after_taking m d q.state (i ∷ inputs es)) (λ t. run m d t (inputs es)))) (sym a.1) (refl, more2))
+    (subst (λ (r : Option S). IsFront (given i ∷ es) (taking_one r i (after_taking m d q.state (i ∷ inputs es)) (λ t. run m d t (inputs es)))) (sym a.1) (refl, more2))
 
 inputs_after : {S I O : Type 0} (m : Timed S I O) → IsTimed m → (e : Entry I O) (es : List (Entry I O)) (k f : Stand S O) → Fresh m k → m.count k.state ≡ entry_count m e → judge_all m k es ≡ Some f → NoneBefore m (entry_count m e) (inputs (e ∷ es))
 inputs_after m law (given i) es k f fresh is h = omega arith
@@ -225,6 +227,7 @@ peel {S} {I} {O} m s d (made o) es h = over (inputs es) h
     go : (is : List I) (i : I) (r : Option S) → takes m s i ≡ r → IsFront (made o ∷ es) (taking_one r i (after_taking m d s (i ∷ is)) (λ t. run m d t is)) → Taken m s d (made o) es ⊎ Stepped m s d (made o) es (i ∷ is)
     go is i None p f = inr (record { same = rw p refl; more = f })
     go is i (Some t) p f = absurd (let e : made o ≡ given i = f.0 in cc)
+
     over : (is : List I) → IsFront (made o ∷ es) (run m d s is) → Taken m s d (made o) es ⊎ Stepped m s d (made o) es is
     over [] f = inr (record { same = refl; more = f })
     over (i ∷ is) f = go is i (takes m s i) refl f
@@ -274,9 +277,11 @@ unmatched {S} {I} {O} m law e es ih (suc d) s h = by_rule (unmatched m law e es 
     out : ((t : S) → IsFront (e ∷ es) (run m d t (inputs (e ∷ es))) → JudgedWell m d (record { state = t; pending = [] }) (e ∷ es)) → (t : S) (os : List O) → m.step s ≡ Some (t, os) → run m (suc d) s (inputs (e ∷ es)) ≡ outputs t os ++ run m d t (inputs (e ∷ es)) → IsFront (e ∷ es) (outputs t os ++ run m d t (inputs (e ∷ es))) → JudgedWell m (suc d) (record { state = s; pending = [] }) (e ∷ es)
     out inner t [] st same front = step_one m law s t [] d e es st same front (inner t front)
     out inner t (o ∷ os) st same front = step_one m law s t (o ∷ os) d e es st same front (match_one m law t d o os e es front (ih (record { state = t; pending = os }) d))
+
     go : ((t : S) → IsFront (e ∷ es) (run m d t (inputs (e ∷ es))) → JudgedWell m d (record { state = t; pending = [] }) (e ∷ es)) → (r : Option (S × List O)) → m.step s ≡ r → run m (suc d) s (inputs (e ∷ es)) ≡ after_taking m (suc d) s (inputs (e ∷ es)) → IsFront (e ∷ es) (stepping r (λ t. run m d t (inputs (e ∷ es)))) → JudgedWell m (suc d) (record { state = s; pending = [] }) (e ∷ es)
     go inner None st same front = absurd front
     go inner (Some r) st same front = out inner r.0 r.1 st (same ∙ rw st refl) front
+
     by_rule : ((t : S) → IsFront (e ∷ es) (run m d t (inputs (e ∷ es))) → JudgedWell m d (record { state = t; pending = [] }) (e ∷ es)) → Taken m s (suc d) e es ⊎ Stepped m s (suc d) e es (inputs (e ∷ es)) → JudgedWell m (suc d) (record { state = s; pending = [] }) (e ∷ es)
     by_rule inner (inl t) = take_one m law s (suc d) e es t (ih (record { state = t.state; pending = [] }) (suc d) t.more)
     by_rule inner (inr p) = go inner (m.step s) refl p.same p.more
@@ -300,6 +305,7 @@ quiet_short {S} {I} {O} m law b loud (suc k) s lt = go (λ t. quiet_short m law 
         let other : m.count t ≡ b → ⊥ = loud s t e in
         ih t (omega arith)
     out ih t (o ∷ os) e = let n = law.steps s t (o ∷ os) e in omega arith
+
     go : ((t : S) → m.count t < b → m.count (quiet m k t).state ≤ b) → (r : Option (S × List O)) → m.step s ≡ r → m.count (quiet_step (quiet m k) s r).state ≤ b
     go ih None e = omega arith
     go ih (Some r) e = out ih r.0 r.1 e

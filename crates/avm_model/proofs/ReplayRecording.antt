@@ -18,6 +18,7 @@ past_all {S} {I} {O} m law (suc k) t u c e le = go (λ v e. past_all m law k v u
         let r = ih v h in
         (omega (arith, r.0), settle_past m c t v [] s n (omega (arith, r.0)) ∙ r.1)
     out ih v (o ∷ os) s h = absurd cc
+
     go : ((v : S) → moved m k v ≡ Some u → (m.count v ≤ m.count u) × (settle m c v [] ≡ settle m c u [])) → (r : Option (S × List O)) → m.step t ≡ r → moved_by r (moved m k) ≡ Some u → (m.count t ≤ m.count u) × (settle m c t [] ≡ settle m c u [])
     go ih None s h = absurd cc
     go ih (Some r) s h = out ih r.0 r.1 s h
@@ -35,7 +36,7 @@ step_recorded {S} {I} {O} m law s t u v es k o os h e st =
     let past = past_all m law k t u (m.output_count o) e (omega (arith, stamps.0)) in
     let last = settle_past m (m.output_count o) u v (o ∷ os) st n (omega (arith, stamps.0)) in
     let one : judge m (start t) (made o) ≡ Some (record { state = v; pending = os }) =
-        ap (settled m (made o)) (past.1 ∙ last) ∙ rw (law.same_refl o) refl in
+    ap (settled m (made o)) (past.1 ∙ last) ∙ rw (law.same_refl o) refl in
     let all : judge_all m (start t) (map made (o ∷ os)) ≡ Some (start v) = rw one (pending_all m law v os) in
     Stands-judged m law s (es ++ map made (o ∷ os)) (start v) (judge_all-append m (start s) es (map made (o ∷ os)) ∙ rw (judged-Stands m law s es (start t) h) all)
 

@@ -55,7 +55,7 @@ faults {S} {I} {O} m law s es j e h g r =
 pub first_fault : {S I O X : Type 0} (m : Timed S I O) → IsTimed m → (s : S) (f : X → Entry I O) (xs : List X) (i : ℕ) (d : X) → i < length xs → Replays m s (map f (take i xs)) → (Replays m s (map f (take i xs) ++ f (get_or xs i d) ∷ []) → ⊥) → IsFirstFault m s (map f xs) i
 first_fault {S} {I} {O} m law s f xs i d lt before fault =
     let seam : take (suc i) (map f xs) ≡ map f (take i xs) ++ f (get_or xs i d) ∷ [] =
-        take-suc (map f xs) i (f d) (omega (arith, length-map xs f)) ∙ ap₂ (λ (a : List (Entry I O)) (b : Entry I O). a ++ b ∷ []) (take-map f i xs) (get_or-map f xs i d (f d) lt) in
+    take-suc (map f xs) i (f d) (omega (arith, length-map xs f)) ∙ ap₂ (λ (a : List (Entry I O)) (b : Entry I O). a ++ b ∷ []) (take-map f i xs) (get_or-map f xs i d (f d) lt) in
     record {
       within = omega (arith, length-map xs f);
       fault = λ r. fault (subst (λ (es : List (Entry I O)). Replays m s es) seam r);
@@ -88,6 +88,7 @@ rule_three {S} {I} {O} m s is n free ends = taking_none is free ∙ go (n - m.co
     taking_none : (is : List I) → NotTaken m s is → rerun m s is n ≡ after_taking m (n - m.count s) s is
     taking_none [] free = refl
     taking_none (i ∷ is) free = rw free refl
+
     go : (d : ℕ) → n - m.count s ≡ d → ((n ≤ m.count s) ⊎ (m.step s ≡ None)) → after_taking m d s is ≡ []
     go zero e ends = refl
     go (suc d) e (inl le) = absurd (omega arith)

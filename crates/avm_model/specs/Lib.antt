@@ -8,6 +8,7 @@ pub mod Memory
 pub mod Device
 pub mod Machine
 pub mod Input
+pub mod Init
 pub mod Timed
 pub mod Rerun
 pub mod Judge

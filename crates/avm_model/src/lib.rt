@@ -78,16 +78,59 @@ pub enum MulOp {
 /// An instruction, with its immediate sign-extended.
 #[derive(Clone, Copy, Debug, PartialEq, Eq)]
 pub enum Inst {
-    Lui { rd: u8, imm: u32 },
-    Auipc { rd: u8, imm: u32 },
-    Jal { rd: u8, imm: u32 },
-    Jalr { rd: u8, rs1: u8, imm: u32 },
-    Branch { op: BranchOp, rs1: u8, rs2: u8, imm: u32 },
-    Load { op: LoadOp, rd: u8, rs1: u8, imm: u32 },
-    Store { op: StoreOp, rs1: u8, rs2: u8, imm: u32 },
-    Imm { op: ImmOp, rd: u8, rs1: u8, imm: u32 },
-    Op { op: RegOp, rd: u8, rs1: u8, rs2: u8 },
-    Mul { op: MulOp, rd: u8, rs1: u8, rs2: u8 },
+    Lui {
+        rd: u8,
+        imm: u32,
+    },
+    Auipc {
+        rd: u8,
+        imm: u32,
+    },
+    Jal {
+        rd: u8,
+        imm: u32,
+    },
+    Jalr {
+        rd: u8,
+        rs1: u8,
+        imm: u32,
+    },
+    Branch {
+        op: BranchOp,
+        rs1: u8,
+        rs2: u8,
+        imm: u32,
+    },
+    Load {
+        op: LoadOp,
+        rd: u8,
+        rs1: u8,
+        imm: u32,
+    },
+    Store {
+        op: StoreOp,
+        rs1: u8,
+        rs2: u8,
+        imm: u32,
+    },
+    Imm {
+        op: ImmOp,
+        rd: u8,
+        rs1: u8,
+        imm: u32,
+    },
+    Op {
+        op: RegOp,
+        rd: u8,
+        rs1: u8,
+        rs2: u8,
+    },
+    Mul {
+        op: MulOp,
+        rd: u8,
+        rs1: u8,
+        rs2: u8,
+    },
     Fence,
     Ecall,
     Ebreak,
