@@ -1,0 +1,12 @@
+//! The head of a snapshot: the machine without its RAM, as bytes (docs/FORMATS.md, Head).
+#![tactic(auto)]
+
+mod bounds;
+mod machine;
+mod messages;
+mod parts;
+mod peers;
+mod put;
+mod words;
+
+pub use parts::read_head;

@@ -1,0 +1,98 @@
+ghost use Rattle.std.specs.Prelude.{◌≡◌, ◌+◌, ◌*◌, ◌≤◌, ◌<◌, ◌^◌, length};
+ghost use Rattle.avm_model.specs.Device.{MessageState};
+ghost use Rattle.avm_num.specs.Room.{with_bytes, left};
+ghost use Rattle.std.specs.Int.{w16, w32};
+ghost use Rattle.avm_num.specs.Lists.{list_bytes, many_bytes, sized_bytes, be, one};
+ghost use Rattle.avm_model.specs.Head.{FrontData, TransmitData, message_bytes, peer_bytes, front_bytes, transmit_bytes};
+
+use avm_model::Peer;
+use avm_num::Room;
+
+/// Writes a row.
+#[tactic(auto, using(avm_num::proofs::Writes::written))]
+fn put_peer(out: &mut Room, peer: &Peer)
+    requires { 81 ≤ left out.old }
+    ensures value { out.new ≡ with_bytes out.old (peer_bytes peer.now) }
+    ensures left { left out.new + 81 ≡ left out.old }
+{
+    out.put_u8(peer.id);
+    out.put(&peer.key);
+    out.put_u64(peer.sent);
+    out.put_u64(peer.acked);
+    out.put_u64(peer.received);
+}
+
+#[tactic(auto, using(avm_num::proofs::Writes::written))]
+/// Writes rows, one after another.
+fn put_rows(out: &mut Room, peers: &[Peer])
+    requires { 81 * length peers.now ≤ left out.old }
+    ensures left { left out.new + 81 * length peers.now ≡ left out.old }
+    ensures value { out.new ≡ with_bytes out.old (list_bytes peer_bytes peers.now) }
+{
+    for peer in peers {
+        put_peer(out, peer);
+    }
+}
+
+#[tactic(auto, using(avm_num::proofs::Writes::written))]
+/// Writes words, one after another.
+fn put_words(out: &mut Room, words: &[u32])
+    requires { 4 * length words.now ≤ left out.old }
+    ensures left { left out.new + 4 * length words.now ≡ left out.old }
+    ensures value { out.new ≡ with_bytes out.old (list_bytes (be w32) words.now) }
+{
+    for word in words {
+        out.put_u32(*word);
+    }
+}
+
+/// Writes who the machine is, and whom it knows.
+#[tactic(auto, unfolding(avm_model::specs::Head::front_bytes), using(avm_num::proofs::Writes::written))]
+fn put_front(out: &mut Room, own: u8, snap: u32, pages: u32, peers: &[Peer])
+    requires few { length peers.now < 16 }
+    requires room { 11 + 81 * length peers.now ≤ left out.old }
+    ensures value { out.new ≡ with_bytes out.old (front_bytes (record { own = own; snap = snap; pages = pages; peers = peers.now })) }
+    ensures left { left out.new + 11 + 81 * length peers.now ≡ left out.old }
+{
+    out.put_u8(1);
+    out.put_u8(own);
+    out.put_u32(snap);
+    out.put_u32(pages);
+    out.put_u8(peers.len() as u8);
+    put_rows(out, peers);
+}
+
+#[tactic(auto, unfolding(avm_num::specs::Lists::be))]
+fn put_u16(out: &mut Room, value: u16)
+    requires { 2 ≤ left out.old }
+    ensures value { out.new ≡ with_bytes out.old (be w16 value) }
+    ensures left { left out.new + 2 ≡ left out.old }
+{
+    out.put(&value.to_be_bytes());
+}
+
+/// Writes a message.
+#[tactic(auto, using(avm_num::proofs::Writes::written))]
+fn put_message(out: &mut Room, peer: u8, payload: &[u8])
+    requires short { length payload.now ≤ 1024 }
+    requires room { 3 + length payload.now ≤ left out.old }
+    ensures value { out.new ≡ with_bytes out.old (message_bytes (record { peer = peer; payload = payload.now })) }
+    ensures left { left out.new + 3 + length payload.now ≡ left out.old }
+{
+    out.put_u8(peer);
+    put_u16(out, payload.len() as u16);
+    out.put(payload);
+}
+
+/// Writes the transmit registers and the window.
+#[tactic(auto, unfolding(avm_model::specs::Head::transmit_bytes), using(avm_num::proofs::Writes::written))]
+fn put_transmit(out: &mut Room, peer: u32, len: u32, outcome: u32, window: &[u8; 1024])
+    requires { 1036 ≤ left out.old }
+    ensures value { out.new ≡ with_bytes out.old (transmit_bytes (record { peer = peer; len = len; result = outcome; window = window.now })) }
+    ensures left { left out.new + 1036 ≡ left out.old }
+{
+    out.put_u32(peer);
+    out.put_u32(len);
+    out.put_u32(outcome);
+    out.put(window);
+}
