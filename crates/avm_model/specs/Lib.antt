@@ -23,3 +23,9 @@ pub mod HeadReading
 pub mod HeadState
 pub mod Pages
 pub mod Root
+pub mod Parts
+pub mod Packet
+pub mod Content
+pub mod Frame
+pub mod Chain
+pub mod Auth
