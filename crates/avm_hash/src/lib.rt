@@ -1,13 +1,15 @@
-// SHA-256 of a list of bytes.
+//! SHA-256, and a count of the hashes that were made.
 #![tactic(auto)]
 
 ghost use Rattle.std.specs.Prelude.{◌≡◌, ◌++◌, [], ℕ, List, length};
 ghost use Rattle.avm_model.specs.Hash.{hash_of};
 ghost use Rattle.avm_hash.specs.Fed.{Fed};
 
-use sha2::{Digest as _, Sha256};
+mod steps;
 
 pub use avm_model::Digest;
+use sha2::{Digest as _, Sha256};
+pub use steps::Steps;
 
 /// SHA-256 of the bytes.
 #[tactic(auto, unfolding(avm_model::specs::Hash::hash_of))]
