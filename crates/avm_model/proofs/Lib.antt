@@ -2,7 +2,9 @@ pub mod Image
 pub mod ReplayLaws
 pub mod ReplayTheorems
 pub mod ReplayRecording
+pub mod KeyLaws
 pub mod LmsLists
+pub mod LmsTest
 pub mod LmsChains
 pub mod LmsNodes
 pub mod LmsLaw

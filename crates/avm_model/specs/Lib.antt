@@ -12,6 +12,7 @@ pub mod Init
 pub mod Timed
 pub mod Rerun
 pub mod Judge
+pub mod Keys
 pub mod LmsTypes
 pub mod LmsDigits
 pub mod LmsOts
