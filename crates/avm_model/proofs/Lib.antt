@@ -8,3 +8,4 @@ pub mod LmsTest
 pub mod LmsChains
 pub mod LmsNodes
 pub mod LmsLaw
+pub mod PageCounts
