@@ -30,3 +30,5 @@ pub mod Content
 pub mod Frame
 pub mod Chain
 pub mod Auth
+pub mod Entries
+pub mod Segment
