@@ -32,3 +32,5 @@ pub mod Chain
 pub mod Auth
 pub mod Entries
 pub mod Segment
+pub mod Words
+pub mod Job
