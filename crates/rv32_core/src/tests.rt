@@ -1,0 +1,141 @@
+//! Every instruction once or more, over a memory that holds one value.
+
+ghost use Rattle.std.specs.Prelude.{◌≡◌, ◌%◌, ◌*◌, ◌^◌, ◌==◌, nat_le, slice_index, Some, None, if◌then◌else◌};
+ghost use Rattle.avm_model.specs.Values.{bytes_of};
+ghost use Rattle.avm_model.specs.Exec.{Gave, NotMapped, NoClock};
+
+use crate::{Bus, Exec, Got, Hart, Width, exec};
+
+mod cases;
+
+use cases::{CASES, STORES};
+
+const PC: u32 = 0x8000_0100;
+
+/// A memory that has one word to fetch and one value to load, and keeps the last store; it begins at 80000000, and a load
+/// from 10000008 asks.
+#[derive(Drop)]
+struct Cell {
+    word: u32,
+    data: u32,
+    address: u32,
+    width: Width,
+    stored: u32,
+}
+
+impl Bus for Cell {
+    ghost fetched = { λ s _. Some s.word };
+
+    ghost loaded = {
+        λ s a w. if nat_le (2 ^ 31) a then Gave (s.data % 2 ^ (8 * bytes_of w)) s else if a == 0x10000008 then NoClock else NotMapped
+    };
+
+    ghost stored = {
+        λ s a w v. if nat_le (2 ^ 31) a then Some (record s { address = a; width = w; stored = v }) else None
+    };
+
+    ghost can_store = { λ s. Unit {0} };
+
+    ghost keeps = { λ s t. Unit {0} };
+
+    fn fetch(&mut self, _addr: u32) -> Option<u32> {
+        Some(self.word)
+    }
+
+    fn load(&mut self, addr: u32, width: Width) -> Got {
+        if addr >= 0x8000_0000 {
+            return Got::Value(low(self.data, width));
+        }
+        if addr == 0x1000_0008 {
+            return Got::Asks;
+        }
+        Got::Unmapped
+    }
+
+    fn store(&mut self, addr: u32, width: Width, value: u32) -> bool {
+        if addr < 0x8000_0000 {
+            return false;
+        }
+        self.address = addr;
+        self.width = width;
+        self.stored = value;
+        true
+    }
+
+    ghost keeps_same = { λ s. tt };
+}
+
+fn low(value: u32, width: Width) -> u32
+    ensures { result ≡ value % 2 ^ (8 * bytes_of width) }
+{
+    match width {
+        Width::Byte => value % 0x100,
+        Width::Half => value % 0x1_0000,
+        Width::Word => value,
+    }
+}
+
+fn holding(word: u32, data: u32) -> Cell {
+    Cell {
+        word,
+        data,
+        address: 0,
+        width: Width::Byte,
+        stored: 0,
+    }
+}
+
+fn registers(a: u32, b: u32) -> [u32; 32]
+    ensures { slice_index result 0 ≡ 0 }
+{
+    let mut x = [0x3333_3333; 32];
+    x[0] = 0;
+    x[1] = a;
+    x[2] = b;
+    x[10] = 0xa0a0_a0a0;
+    x
+}
+
+fn ending(exec: Exec) -> (u32, u32) {
+    match exec {
+        Exec::Done => (0, 0),
+        Exec::Asks => (10, 0),
+        Exec::Halt { cause, value } => (cause, value),
+    }
+}
+
+#[test]
+fn instructions(rt: HostRuntime) {
+    for &(word, a, b, data, rd, value, pc, end, arg) in &CASES {
+        let mut bus = holding(word, data);
+        let mut hart = Hart {
+            x: registers(a, b),
+            pc: PC,
+        };
+        let mut want = registers(a, b);
+        if rd % 32 != 0 {
+            want[(rd % 32) as usize] = value;
+        }
+        let outcome = exec(&mut hart, &mut bus);
+        assert_eq!(rt; ending(outcome), (end, arg), "{word:08x} of {a:x}, {b:x}");
+        assert_eq!(rt; hart.x, want, "{word:08x} of {a:x}, {b:x}");
+        assert_eq!(rt; hart.pc, pc, "{word:08x} of {a:x}, {b:x}");
+    }
+}
+
+#[test]
+fn stores(rt: HostRuntime) {
+    for &(word, a, b, address, bytes, value, end, arg) in &STORES {
+        let mut bus = holding(word, 0);
+        let mut hart = Hart {
+            x: registers(a, b),
+            pc: PC,
+        };
+        let outcome = exec(&mut hart, &mut bus);
+        assert_eq!(rt; ending(outcome), (end, arg), "{word:08x}");
+        assert_eq!(rt; (bus.address, bus.stored), (address, value), "{word:08x}");
+        let width = if bytes == 0 { 1 } else { bytes };
+        assert_eq!(rt; bus.width.bytes(), width, "{word:08x}");
+        assert_eq!(rt; hart.x, registers(a, b), "{word:08x}");
+    }
+}
