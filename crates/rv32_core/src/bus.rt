@@ -22,8 +22,7 @@ pub enum Got {
 /// What an instruction reads and writes: memory and devices.
 ///
 /// What a call answers, and the state after it, are functions of the state before it and the arguments. A fetch, a load
-/// without a value and a refused store change nothing. `can_store` is what a store needs, and `keeps` relates the state
-/// before a load or a store to the one after it.
+/// without a value and a refused store change nothing. `can_store` is what a store needs.
 pub trait Bus {
     ghost fetched: { Self → ℕ → Option ℕ };
 
@@ -32,8 +31,6 @@ pub trait Bus {
     ghost stored: { Self → ℕ → Size → ℕ → Option Self };
 
     ghost can_store: { Self → Type 0 };
-
-    ghost keeps: { Self → Self → Type 0 };
 
     /// The word at the address.
     fn fetch(&mut self, addr: u32) -> Option<u32>
@@ -44,17 +41,12 @@ pub trait Bus {
     fn load(&mut self, addr: u32, width: Width) -> Got
         ensures answer { result ≡ got (loaded self.old addr width) }
         ensures bound { IsValueBelow (2 ^ (8 * bytes_of width)) result }
-        ensures after { self.new ≡ state_after self.old (loaded self.old addr width) }
-        ensures kept { keeps self.old self.new };
+        ensures after { self.new ≡ state_after self.old (loaded self.old addr width) };
 
     /// Puts the value at the address, in a width that divides the address; false exactly where nothing can be stored there.
     fn store(&mut self, addr: u32, width: Width, value: u32) -> bool
         requires can { can_store self.old }
         requires value { value < 2 ^ (8 * bytes_of width) }
         ensures answer { result ≡ is_some (stored self.old addr width value) }
-        ensures after { self.new ≡ stored_state self.old (stored self.old addr width value) }
-        ensures kept { keeps self.old self.new };
-
-    // What a load or a store keeps, no call keeps too.
-    ghost keeps_same: { (s : Self) → keeps s s };
+        ensures after { self.new ≡ stored_state self.old (stored self.old addr width value) };
 }

@@ -115,7 +115,6 @@ fn load_from<B: Bus>(hart: &mut Hart, bus: &mut B, op: LoadOp, rd: u8, address: 
     ensures answer { result ≡ shown (load (bus_of B.fetched B.loaded B.stored) hart.old bus.old op rd address) }
     ensures hart { hart.new ≡ hart_after hart.old (load (bus_of B.fetched B.loaded B.stored) hart.old bus.old op rd address) }
     ensures bus { bus.new ≡ bus_after bus.old (load (bus_of B.fetched B.loaded B.stored) hart.old bus.old op rd address) }
-    ensures kept { B.keeps bus.old bus.new }
 {
     let width = load_width(op);
     if address % byte_count(width) != 0 {
@@ -139,7 +138,6 @@ fn store_to<B: Bus>(hart: &mut Hart, bus: &mut B, op: StoreOp, address: u32, val
     ensures answer { result ≡ shown (store (bus_of B.fetched B.loaded B.stored) hart.old bus.old op address value) }
     ensures hart { hart.new ≡ hart_after hart.old (store (bus_of B.fetched B.loaded B.stored) hart.old bus.old op address value) }
     ensures bus { bus.new ≡ bus_after bus.old (store (bus_of B.fetched B.loaded B.stored) hart.old bus.old op address value) }
-    ensures kept { B.keeps bus.old bus.new }
 {
     let width = store_width(op);
     if address % byte_count(width) != 0 {
@@ -163,7 +161,6 @@ fn execute<B: Bus>(hart: &mut Hart, bus: &mut B, inst: Inst) -> Exec
     ensures answer { result ≡ shown (executed (bus_of B.fetched B.loaded B.stored) hart.old bus.old inst) }
     ensures hart { hart.new ≡ hart_after hart.old (executed (bus_of B.fetched B.loaded B.stored) hart.old bus.old inst) }
     ensures bus { bus.new ≡ bus_after bus.old (executed (bus_of B.fetched B.loaded B.stored) hart.old bus.old inst) }
-    ensures kept { B.keeps bus.old bus.new }
 {
     match inst {
         Inst::Lui { rd, imm } => finish(hart, rd, imm),
@@ -226,7 +223,6 @@ pub fn exec<B: Bus>(hart: &mut Hart, bus: &mut B) -> Exec
     ensures answer { result ≡ shown (run (bus_of B.fetched B.loaded B.stored) hart.old bus.old) }
     ensures hart { hart.new ≡ hart_after hart.old (run (bus_of B.fetched B.loaded B.stored) hart.old bus.old) }
     ensures bus { bus.new ≡ bus_after bus.old (run (bus_of B.fetched B.loaded B.stored) hart.old bus.old) }
-    ensures kept { B.keeps bus.old bus.new }
 {
     let pc = hart.pc();
     let Some(word) = bus.fetch(pc) else {

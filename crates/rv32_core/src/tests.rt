@@ -17,7 +17,7 @@ const PC: u32 = 0x8000_0100;
 #[derive(Drop)]
 struct Cell {
     word: u32,
-    data: u32,
+    held: u32,
     address: u32,
     width: Width,
     stored: u32,
@@ -26,17 +26,11 @@ struct Cell {
 impl Bus for Cell {
     ghost fetched = { λ s _. Some s.word };
 
-    ghost loaded = {
-        λ s a w. if nat_le (2 ^ 31) a then Gave (s.data % 2 ^ (8 * bytes_of w)) s else if a == 0x10000008 then NoClock else NotMapped
-    };
+    ghost loaded = { λ s a w. if nat_le (2 ^ 31) a then Gave (s.held % 2 ^ (8 * bytes_of w)) s else if a == 0x10000008 then NoClock else NotMapped };
 
-    ghost stored = {
-        λ s a w v. if nat_le (2 ^ 31) a then Some (record s { address = a; width = w; stored = v }) else None
-    };
+    ghost stored = { λ s a w v. if nat_le (2 ^ 31) a then Some (record s { address = a; width = w; stored = v }) else None };
 
     ghost can_store = { λ s. Unit {0} };
-
-    ghost keeps = { λ s t. Unit {0} };
 
     fn fetch(&mut self, _addr: u32) -> Option<u32> {
         Some(self.word)
@@ -44,7 +38,7 @@ impl Bus for Cell {
 
     fn load(&mut self, addr: u32, width: Width) -> Got {
         if addr >= 0x8000_0000 {
-            return Got::Value(low(self.data, width));
+            return Got::Value(low(self.held, width));
         }
         if addr == 0x1000_0008 {
             return Got::Asks;
@@ -61,8 +55,6 @@ impl Bus for Cell {
         self.stored = value;
         true
     }
-
-    ghost keeps_same = { λ s. tt };
 }
 
 fn low(value: u32, width: Width) -> u32
@@ -75,10 +67,10 @@ fn low(value: u32, width: Width) -> u32
     }
 }
 
-fn holding(word: u32, data: u32) -> Cell {
+fn holding(word: u32, held: u32) -> Cell {
     Cell {
         word,
-        data,
+        held,
         address: 0,
         width: Width::Byte,
         stored: 0,
