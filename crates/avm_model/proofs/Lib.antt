@@ -3,6 +3,7 @@ pub mod ReplayLaws
 pub mod ReplayTheorems
 pub mod ReplayRecording
 pub mod KeyLaws
+pub mod ReplayInputs
 pub mod LmsLists
 pub mod LmsTest
 pub mod LmsChains

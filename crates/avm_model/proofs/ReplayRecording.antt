@@ -8,7 +8,7 @@ use Rattle.avm_model.proofs.ReplayLaws.{taken, settle_past}
 use Rattle.avm_model.proofs.ReplayTheorems.{Stands-judged, judged-Stands, judge_all-append}
 
 -- settling goes on in the same way after steps without outputs
-past_all : {S I O : Type 0} (m : Timed S I O) → IsTimed m → (k : ℕ) (t u : S) (c : ℕ) → moved m k t ≡ Some u → m.count u ≤ c → (m.count t ≤ m.count u) × (settle m c t [] ≡ settle m c u [])
+pub past_all : {S I O : Type 0} (m : Timed S I O) → IsTimed m → (k : ℕ) (t u : S) (c : ℕ) → moved m k t ≡ Some u → m.count u ≤ c → (m.count t ≤ m.count u) × (settle m c t [] ≡ settle m c u [])
 past_all m law zero t u c e le = let q : t ≡ u = cc in (rw q (omega arith), rw q refl)
 past_all {S} {I} {O} m law (suc k) t u c e le = go (λ v e. past_all m law k v u c e le) (m.step t) refl e
   where

@@ -69,10 +69,10 @@ fault_whole {S} {I} {O} m law s es i f r =
 
 -- ---- the three rules of a run, as they are read
 
-rule_one : {S I O : Type 0} (m : Timed S I O) → IsTimed m → (s t : S) (i : I) (is : List I) (n : ℕ) → takes m s i ≡ Some t → rerun m s (i ∷ is) n ≡ record { entry = given i; state = t; lacking = [] } ∷ rerun m t is n
+pub rule_one : {S I O : Type 0} (m : Timed S I O) → IsTimed m → (s t : S) (i : I) (is : List I) (n : ℕ) → takes m s i ≡ Some t → rerun m s (i ∷ is) n ≡ record { entry = given i; state = t; lacking = [] } ∷ rerun m t is n
 rule_one m law s t i is n e = let c = taken m law s t i e in rw (e, c.1) refl
 
-rule_two : {S I O : Type 0} (m : Timed S I O) → IsTimed m → (s t : S) (os : List O) (is : List I) (n : ℕ) → NotTaken m s is → m.count s < n → m.step s ≡ Some (t, os) → rerun m s is n ≡ outputs t os ++ rerun m t is n
+pub rule_two : {S I O : Type 0} (m : Timed S I O) → IsTimed m → (s t : S) (os : List O) (is : List I) (n : ℕ) → NotTaken m s is → m.count s < n → m.step s ≡ Some (t, os) → rerun m s is n ≡ outputs t os ++ rerun m t is n
 rule_two m law s t os [] n free lt e =
     let c = law.steps s t os e in
     let d : n - m.count s ≡ suc (n - m.count t) = omega arith in
@@ -82,7 +82,7 @@ rule_two m law s t os (i ∷ is) n free lt e =
     let d : n - m.count s ≡ suc (n - m.count t) = omega arith in
     rw (free, d, e) refl
 
-rule_three : {S I O : Type 0} (m : Timed S I O) → (s : S) (is : List I) (n : ℕ) → NotTaken m s is → ((n ≤ m.count s) ⊎ (m.step s ≡ None)) → rerun m s is n ≡ []
+pub rule_three : {S I O : Type 0} (m : Timed S I O) → (s : S) (is : List I) (n : ℕ) → NotTaken m s is → ((n ≤ m.count s) ⊎ (m.step s ≡ None)) → rerun m s is n ≡ []
 rule_three {S} {I} {O} m s is n free ends = taking_none is free ∙ go (n - m.count s) refl ends
   where
     taking_none : (is : List I) → NotTaken m s is → rerun m s is n ≡ after_taking m (n - m.count s) s is
@@ -116,3 +116,7 @@ first_fault_at {S} {I} {O} m law s before e behind h fault =
       fault = λ r. fault (subst (λ (es : List (Entry I O)). Replays m s es) seam r);
       first = λ n le. front_replays m law s (take n (before ++ e ∷ behind)) (drop n before) (subst (λ (es : List (Entry I O)). Replays m s es) (sym (ap (λ (es : List (Entry I O)). es ++ drop n before) (take-append-le n before (e ∷ behind) le) ∙ take-append-drop n before)) h);
     }
+
+-- The same of an entry that is judged as a fault.
+pub judged_fault : {S I O : Type 0} (m : Timed S I O) → IsTimed m → (s : S) (before : List (Entry I O)) (e : Entry I O) (behind : List (Entry I O)) (j : Stand S O) → Stands m s before j → judge m j e ≡ None → IsFirstFault m s (before ++ e ∷ behind) (length before)
+judged_fault m law s before e behind j h none = first_fault_at m law s before e behind h.replays (faults m law s before j e h none)

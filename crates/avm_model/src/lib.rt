@@ -1,8 +1,15 @@
 //! The words that the machine's contracts are written in: its instructions, and their meaning in `specs/`.
 #![tactic(auto)]
 
+mod laws;
+
 ghost use Rattle.std.specs.Prelude.{◌≡◌};
 ghost use Rattle.avm_model.specs.Values.{bytes_of};
+
+pub use laws::{
+    entries_are_short, fronts_replay, judged_as_replayed, misplaced_inputs, one_first_fault,
+    recorded_replays, run_by_rules,
+};
 
 /// A conditional branch.
 #[derive(Clone, Copy, Debug, PartialEq, Eq)]
