@@ -9,6 +9,8 @@ pub mod Device
 pub mod Machine
 pub mod Input
 pub mod Init
+pub mod Offer
+pub mod Reference
 pub mod Timed
 pub mod Rerun
 pub mod Judge
