@@ -10,3 +10,5 @@ pub mod LmsChains
 pub mod LmsNodes
 pub mod LmsLaw
 pub mod PageCounts
+pub mod PartLaws
+pub mod PartLengths

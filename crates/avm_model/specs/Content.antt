@@ -1,5 +1,5 @@
 -- The content of an entry, by its kind (docs/FORMATS.md, "Entries").
-use Rattle.std.specs.Prelude.{◌≡◌, ℕ, ◌^◌, ◌<◌, ◌≤◌, ◌==◌, ◌&&◌, nat_le, List, [], ◌++◌, length, Option, Some, None, option_map, is_some, if◌then◌else◌}
+use Rattle.std.specs.Prelude.{◌≡◌, ℕ, ◌^◌, ◌<◌, ◌≤◌, ◌==◌, ◌&&◌, nat_le, List, ◌++◌, length, Option, None, option_map, is_some, if◌then◌else◌}
 use Rattle.std.specs.Int.{w32, w64}
 use Rattle.avm_num.specs.Bytes.{◌>>=◌, number_at, kept}
 use Rattle.avm_num.specs.Lists.{be}

@@ -1,5 +1,5 @@
 -- A frame: an entry as it stands in a log (docs/FORMATS.md, "Entries").
-use Rattle.std.specs.Prelude.{◌≡◌, ℕ, ◌^◌, ◌<◌, List, ◌++◌, length, Option, Some, is_some}
+use Rattle.std.specs.Prelude.{◌≡◌, ℕ, ◌^◌, ◌<◌, List, ◌++◌, length, Option, is_some}
 use Rattle.std.specs.Int.{w32, w64}
 use Rattle.avm_num.specs.Bytes.{◌>>=◌, number_at, byte_at, kept}
 use Rattle.avm_num.specs.Lists.{be, one, sized_at, sized_bytes}

@@ -1,0 +1,5 @@
+pub mod Options
+pub mod Wholes
+pub mod PacketLaws
+pub mod Contents
+pub mod FrameLaws

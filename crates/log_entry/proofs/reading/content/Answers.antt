@@ -1,0 +1,8 @@
+use Rattle.log_entry.proofs.Contents.{found, none}
+use Rattle.log_entry.proofs.reading.content.Goals as goal
+
+pub returns-clause-found : goal.returns-clause-found
+returns-clause-found c = found _ _ _ c.are_bytes.ensures c.form.ensures
+
+pub returns-clause-none : goal.returns-clause-none
+returns-clause-none c = none _ _ _ c.form.ensures
