@@ -12,3 +12,4 @@ pub mod LmsLaw
 pub mod PageCounts
 pub mod PartLaws
 pub mod PartLengths
+pub mod PageDepth

@@ -4,10 +4,10 @@ use Rattle.std.proofs.lemmas.Bool.{and_parts, eqb-true, ltb-true}
 use Rattle.std.proofs.lemmas.Nat.{div-add-mod'}
 use Rattle.avm_model.specs.Memory.{is_page_count}
 
-abbrev positive : (n : ℕ) → IsTrue (is_page_count n) → 0 < n
+abbrev pub positive : (n : ℕ) → IsTrue (is_page_count n) → 0 < n
 positive n p = ltb-true 0 n (and_parts (nat_lt 0 n) (nat_eq (4096 % n) 0) p).0
 
-divides : (n : ℕ) → IsTrue (is_page_count n) → 4096 / n * n ≡ 4096
+pub divides : (n : ℕ) → IsTrue (is_page_count n) → 4096 / n * n ≡ 4096
 divides n p =
     let rest = eqb-true (4096 % n) 0 (and_parts (nat_lt 0 n) (nat_eq (4096 % n) 0) p).1 in
     let whole = div-add-mod' 4096 n in

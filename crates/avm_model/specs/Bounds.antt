@@ -2,6 +2,7 @@
 use Rattle.std.specs.Prelude.{ℕ, ◌+◌, ◌%◌, ◌^◌, ◌==◌, ◌&&◌, ◌||◌, not, nat_le, nat_lt, Bool, true, false, List, [], ◌∷◌, length, take, drop}
 use Rattle.std.specs.List.{list_any}
 use Rattle.std.specs.Int.{w32, from_be_bytes}
+use Rattle.avm_model.specs.Memory.{is_page_count}
 use Rattle.avm_model.specs.Device.{MessageState}
 use Rattle.avm_model.specs.declared.Peer.{Peer}
 use Rattle.avm_model.specs.declared.Status.{Status}
@@ -43,10 +44,6 @@ are_messages peers (m ∷ ms) = nat_le (length m.payload) 1024 && knows peers m.
 -- a line end stands in the line
 abbrev pub has_ten : List ℕ → Bool
 has_ten bytes = list_any (λ b. b == 10) bytes
-
--- a power of two to 4096
-abbrev pub is_page_count : ℕ → Bool
-is_page_count n = nat_lt 0 n && 4096 % n == 0
 
 abbrev pub is_front : FrontData → Bool
 is_front f = nat_lt f.own 16 && nat_le 1024 f.snap && nat_le f.snap (2 ^ 24) && is_page_count f.pages && are_rows f.own 0 f.peers
