@@ -13,3 +13,5 @@ pub mod PageCounts
 pub mod PartLaws
 pub mod PartLengths
 pub mod PageDepth
+pub mod StepLaws
+pub mod ReferenceLaws
