@@ -1,0 +1,11 @@
+use Rattle.std.proofs.Common.{rules, sym, ◌∙◌}
+use Rattle.avm_model.specs.Job.{check_job, check_command}
+use Rattle.avm_script.proofs.Asked.{refused, asked}
+use Rattle.avm_script.proofs.commands.check.Goals as goal
+
+pub returns-then-not-is_paired : goal.returns-then-not-is_paired
+returns-then-not-is_paired c = sym (refused check_command _ (sym c.is_paired.ensures ∙ c.if-not-is_paired.true))
+
+pub returns : goal.returns
+unfolding check_job
+returns c = rw (asked check_command _ (sym c.is_paired.ensures ∙ c.if-not-is_paired.false)) (search rules)

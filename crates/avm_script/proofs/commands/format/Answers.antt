@@ -1,0 +1,11 @@
+use Rattle.std.proofs.Common.{rules, sym, ◌∙◌}
+use Rattle.avm_model.specs.Job.{format_job, format_command}
+use Rattle.avm_script.proofs.Asked.{refused, asked}
+use Rattle.avm_script.proofs.commands.format.Goals as goal
+
+pub returns-then-not-is_paired : goal.returns-then-not-is_paired
+returns-then-not-is_paired c = sym (refused format_command _ (sym c.is_paired.ensures ∙ c.if-not-is_paired.true))
+
+pub returns : goal.returns
+unfolding format_job
+returns c = rw (asked format_command _ (sym c.is_paired.ensures ∙ c.if-not-is_paired.false)) (search rules)

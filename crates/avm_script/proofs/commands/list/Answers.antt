@@ -1,0 +1,11 @@
+use Rattle.std.proofs.Common.{rules, sym, ◌∙◌}
+use Rattle.avm_model.specs.Job.{list_job, list_command}
+use Rattle.avm_script.proofs.Asked.{refused, asked}
+use Rattle.avm_script.proofs.commands.list.Goals as goal
+
+pub returns-then-not-is_paired : goal.returns-then-not-is_paired
+returns-then-not-is_paired c = sym (refused list_command _ (sym c.is_paired.ensures ∙ c.if-not-is_paired.true))
+
+pub returns : goal.returns
+unfolding list_job
+returns c = rw (asked list_command _ (sym c.is_paired.ensures ∙ c.if-not-is_paired.false)) (search rules)
