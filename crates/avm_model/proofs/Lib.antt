@@ -15,3 +15,4 @@ pub mod PartLengths
 pub mod PageDepth
 pub mod StepLaws
 pub mod ReferenceLaws
+pub mod ReferenceShort

@@ -12,7 +12,8 @@ halved : (n : ℕ) → ((m : ℕ) × (n ≡ 2 * m)) ⊎ ((m : ℕ) × (n ≡ 2 *
 halved zero = inl (0, refl)
 halved (suc n) = elim (halved n) [
   | inl p ↦ inr (p.0, omega (arith, p.1))
-  | inr p ↦ inl (p.0 + 1, omega (arith, p.1)) ]
+  | inr p ↦ inl (p.0 + 1, omega (arith, p.1))
+]
 
 one_of : (n q : ℕ) → n * q ≡ 1 → n ≡ 1
 one_of zero q e = absurd (omega (arith, e))
@@ -26,11 +27,11 @@ divisor zero n q e = (0, one_of n q e)
 divisor (suc k) n q e =
     let two : n * q ≡ 2 * 2 ^ k = e ∙ pow-succ' 2 k in
     elim (halved n) [
-    | inl p ↦
-        let a : n * q ≡ 2 * (p.0 * q) = ap (λ (x : ℕ). x * q) p.1 ∙ mul_assoc 2 p.0 q in
-        let rest = divisor k p.0 q (omega (arith, a, two)) in
-        (suc rest.0, p.1 ∙ ap (λ (x : ℕ). 2 * x) rest.1 ∙ sym (pow-succ' 2 rest.0))
-    | inr p ↦ elim (halved q) [
+      | inl p ↦
+          let a : n * q ≡ 2 * (p.0 * q) = ap (λ (x : ℕ). x * q) p.1 ∙ mul_assoc 2 p.0 q in
+          let rest = divisor k p.0 q (omega (arith, a, two)) in
+          (suc rest.0, p.1 ∙ ap (λ (x : ℕ). 2 * x) rest.1 ∙ sym (pow-succ' 2 rest.0))
+      | inr p ↦ elim (halved q) [
         | inl r ↦
             let a : n * q ≡ 2 * (n * r.0) = ap (λ (x : ℕ). n * x) r.1 ∙ sym (mul_assoc n 2 r.0) ∙ ap (λ (x : ℕ). x * r.0) (mul_comm n 2) ∙ mul_assoc 2 n r.0 in
             divisor k n r.0 (omega (arith, a, two))
@@ -39,7 +40,9 @@ divisor (suc k) n q e =
             let a : n * q ≡ (2 * p.0) * q + q = ap (λ (x : ℕ). x * q) i ∙ suc-mul (2 * p.0) q in
             let b : (2 * p.0) * q ≡ 2 * (p.0 * q) = mul_assoc 2 p.0 q in
             let c = r.1 in
-            absurd (omega (arith, a, b, c, two)) ] ]
+            absurd (omega (arith, a, b, c, two))
+      ]
+    ]
 
 power_below : (d : ℕ) → d < 2 ^ d
 power_below zero = omega arith

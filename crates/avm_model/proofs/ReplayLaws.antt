@@ -294,30 +294,36 @@ judged_of_front {S} {I} {O} m law (e ∷ es) j d h = by_pending (judged_of_front
     by_pending ih [] f = unmatched m law e es ih d j.state f
     by_pending ih (o ∷ os) f = match_one m law j.state d o os e es f (ih (record { state = j.state; pending = os }) d)
 
--- Quiet steps don't pass a count b at which each step has outputs.
-pub quiet_short : {S I O : Type 0} (m : Timed S I O) → IsTimed m → (b : ℕ) → ((s t : S) → m.step s ≡ Some (t, []) → m.count t ≡ b → ⊥) → (k : ℕ) (s : S) → m.count s < b → m.count (quiet m k s).state ≤ b
-quiet_short m law b loud zero s lt = omega arith
-quiet_short {S} {I} {O} m law b loud (suc k) s lt = go (λ t. quiet_short m law b loud k t) (m.step s) refl
+-- Quiet steps from states with a property that steps keep don't pass a count b at which each step from such a state has outputs.
+pub quiet_short : {S I O : Type 0} (m : Timed S I O) → IsTimed m → (P : S → Type 0) → ((s t : S) (os : List O) → P s → m.step s ≡ Some (t, os) → P t) → (b : ℕ) → ((s t : S) → P s → m.step s ≡ Some (t, []) → m.count t ≡ b → ⊥) → (k : ℕ) (s : S) → P s → m.count s < b → m.count (quiet m k s).state ≤ b
+quiet_short m law P keeps b loud zero s p lt = omega arith
+quiet_short {S} {I} {O} m law P keeps b loud (suc k) s p lt = go (λ t. quiet_short m law P keeps b loud k t) (m.step s) refl
   where
-    out : ((t : S) → m.count t < b → m.count (quiet m k t).state ≤ b) → (t : S) (os : List O) → m.step s ≡ Some (t, os) → m.count (quiet_out (quiet m k) t os).state ≤ b
+    out : ((t : S) → P t → m.count t < b → m.count (quiet m k t).state ≤ b) → (t : S) (os : List O) → m.step s ≡ Some (t, os) → m.count (quiet_out (quiet m k) t os).state ≤ b
     out ih t [] e =
         let n = law.steps s t [] e in
-        let other : m.count t ≡ b → ⊥ = loud s t e in
-        ih t (omega arith)
+        let other : m.count t ≡ b → ⊥ = loud s t p e in
+        ih t (keeps s t [] p e) (omega arith)
     out ih t (o ∷ os) e = let n = law.steps s t (o ∷ os) e in omega arith
 
-    go : ((t : S) → m.count t < b → m.count (quiet m k t).state ≤ b) → (r : Option (S × List O)) → m.step s ≡ r → m.count (quiet_step (quiet m k) s r).state ≤ b
+    go : ((t : S) → P t → m.count t < b → m.count (quiet m k t).state ≤ b) → (r : Option (S × List O)) → m.step s ≡ r → m.count (quiet_step (quiet m k) s r).state ≤ b
     go ih None e = omega arith
     go ih (Some r) e = out ih r.0 r.1 e
 
 -- One entry costs at most k steps, where each step to a multiple of k has outputs.
-pub settle_short : {S I O : Type 0} (m : Timed S I O) → IsTimed m → (k : ℕ) → 0 < k → ((s t : S) → m.step s ≡ Some (t, []) → m.count t % k ≡ 0 → ⊥) → (c : ℕ) (s : S) (os : List O) → m.count (settle m c s os).state ≤ m.count s + k
-settle_short m law k pos loud c s (o ∷ os) = omega arith
-settle_short m law k pos loud c s [] =
+pub settle_short : {S I O : Type 0} (m : Timed S I O) → IsTimed m → (P : S → Type 0) → ((s t : S) (os : List O) → P s → m.step s ≡ Some (t, os) → P t) → (k : ℕ) → 0 < k → ((s t : S) → P s → m.step s ≡ Some (t, []) → m.count t % k ≡ 0 → ⊥) → (c : ℕ) (s : S) (os : List O) → P s → m.count (settle m c s os).state ≤ m.count s + k
+settle_short m law P keeps k pos loud c s (o ∷ os) p = omega arith
+settle_short m law P keeps k pos loud c s [] p =
     let low : k * (m.count s / k) + m.count s % k ≡ m.count s = omega arith in
     let small : m.count s % k < k = omega arith in
     let b : ℕ = (m.count s / k + 1) * k in
     let b_is : b ≡ k * (m.count s / k) + k = omega arith in
     let zero_is : b % k ≡ 0 = mul-mod_left (m.count s / k + 1) k in
-    let h = quiet_short m law b (λ s t e q. loud s t e (rw q zero_is)) (c - m.count s) s (omega arith) in
+    let h = quiet_short m law P keeps b (λ s t r e q. loud s t r e (rw q zero_is)) (c - m.count s) s p (omega arith) in
     omega (arith, h, b_is)
+
+-- The same with a number of the state in place of k, which steps keep.
+pub settle_within : {S I O : Type 0} (m : Timed S I O) → IsTimed m → (k : S → ℕ) → ((s t : S) (os : List O) → m.step s ≡ Some (t, os) → k t ≡ k s) → ((s t : S) → m.step s ≡ Some (t, []) → m.count t % k t ≡ 0 → ⊥) → (c : ℕ) (s : S) (os : List O) → 0 < k s → m.count (settle m c s os).state ≤ m.count s + k s
+settle_within {S} {I} {O} m law k keeps loud c s os pos =
+    settle_short m law (λ (t : S). k t ≡ k s) (λ t u ps p e. keeps t u ps e ∙ p) (k s) pos
+    (λ t u p e z. loud t u e (rw (keeps t u [] e ∙ p) z)) c s os refl

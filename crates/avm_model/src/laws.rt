@@ -5,6 +5,8 @@ ghost use Rattle.std.specs.Prelude.{◌≡◌, ℕ, ◌<◌, ◌≤◌, ◌⊎�
 ghost use Rattle.avm_model.specs.Timed.{Timed, IsTimed, Entry, given, made, takes};
 ghost use Rattle.avm_model.specs.Rerun.{Stand, Stands, start, rerun, outputs, moved, NotTaken, Replays, IsFirstFault, IsFault};
 ghost use Rattle.avm_model.specs.Judge.{judge, judge_all, settle};
+ghost use Rattle.avm_model.specs.Machine.{State};
+ghost use Rattle.avm_model.specs.Reference.{Made, timed};
 
 /// A run: a next input that has the state's count and isn't refused is taken and is the next entry; else, where the
 /// state can step and its count is below the end, a step is made and its outputs are the next entries; else the run
@@ -39,9 +41,9 @@ pub fn recorded_replays<S, I, O>()
     ensures input { (m : Timed S I O) → IsTimed m → (s t u v : S) (es : List (Entry I O)) (k : ℕ) (i : I) → Stands m s es (start t) → moved m k t ≡ Some u → takes m u i ≡ Some v → Stands m s (es ++ given i ∷ []) (start v) }
 {}
 
-/// Where each step to a multiple of `k` has outputs, an entry costs at most `k` steps.
+/// Where each step to a multiple of a number that steps keep has outputs, an entry costs at most that many steps.
 pub fn entries_are_short<S, I, O>()
-    ensures { (m : Timed S I O) → IsTimed m → (k : ℕ) → 0 < k → ((s t : S) → m.step s ≡ Some (t, []) → m.count t % k ≡ 0 → ⊥) → (c : ℕ) (s : S) (os : List O) → m.count (settle m c s os).state ≤ m.count s + k }
+    ensures { (m : Timed S I O) → IsTimed m → (k : S → ℕ) → ((s t : S) (os : List O) → m.step s ≡ Some (t, os) → k t ≡ k s) → ((s t : S) → m.step s ≡ Some (t, []) → m.count t % k t ≡ 0 → ⊥) → (c : ℕ) (s : S) (os : List O) → 0 < k s → m.count (settle m c s os).state ≤ m.count s + k s }
 {}
 
 /// An input doesn't replay whose count is past, at or before whose count the machine gives an output first, that the
@@ -51,4 +53,15 @@ pub fn misplaced_inputs<S, I, O>()
     ensures early { (m : Timed S I O) → IsTimed m → (s : S) (es : List (Entry I O)) (j : Stand S O) (k : ℕ) (u v : S) (o : O) (os : List O) (i : I) → Stands m s es j → j.pending ≡ [] → moved m k j.state ≡ Some u → m.step u ≡ Some (v, o ∷ os) → m.count v ≤ m.input_count i → Replays m s (es ++ given i ∷ []) → ⊥ }
     ensures refused { (m : Timed S I O) → IsTimed m → (s : S) (es : List (Entry I O)) (j : Stand S O) (k : ℕ) (u : S) (i : I) → Stands m s es j → j.pending ≡ [] → moved m k j.state ≡ Some u → m.count u ≡ m.input_count i → m.take u i ≡ None → Replays m s (es ++ given i ∷ []) → ⊥ }
     ensures pending { (m : Timed S I O) → IsTimed m → (s : S) (es : List (Entry I O)) (j : Stand S O) (i : I) (o : O) (os : List O) → Stands m s es j → j.pending ≡ o ∷ os → Replays m s (es ++ given i ∷ []) → ⊥ }
+{}
+
+/// The reference machine is such a machine: a step adds 1 to the count, its outputs carry the count after it, an input
+/// leaves the count, and outputs are compared field by field.
+pub fn reference_is_timed()
+    ensures { IsTimed timed }
+{}
+
+/// An entry costs the reference machine at most K steps, since it puts out a snapshot at each multiple of K.
+pub fn reference_is_short()
+    ensures { (c : ℕ) (s : State) (os : List Made) → 0 < s.snap → (settle timed c s os).state.count ≤ s.count + s.snap }
 {}

@@ -8,7 +8,7 @@ ghost use Rattle.avm_model.specs.Values.{bytes_of};
 
 pub use laws::{
     entries_are_short, fronts_replay, judged_as_replayed, misplaced_inputs, one_first_fault,
-    recorded_replays, run_by_rules,
+    recorded_replays, reference_is_short, reference_is_timed, run_by_rules,
 };
 
 /// A conditional branch.
