@@ -1,6 +1,7 @@
 -- A state that can step does not wait for a clock.
 use Rattle.std.proofs.Common.{◌≡◌, ℕ, ◌+◌, ◌%◌, ◌^◌, Bool, true, false, not, cond, nat_le, nat_lt, Option, Some, None, is_some, refl, sym, ap, subst, ◌∙◌, eqb-true, eq-eqb}
 use Rattle.std.specs.Prelude.{if◌then◌else◌, ◌==◌, ◌&&◌, ◌||◌, slice_get}
+use Rattle.std.specs.Option.{option_and_then}
 use Rattle.avm_model.specs.Hart.{HartState, reg}
 use Rattle.avm_model.specs.Decode.{decoded}
 use Rattle.avm_model.specs.Values.{bytes_of, load_width, store_width, is_taken}
@@ -134,7 +135,7 @@ waits_asks s e = go (ram_load s.ram s.hart.pc 4) e
     by_inst word None h = absurd cc
     by_inst word (Some i) h = let a = executed_waits s.hart (board_of s) i h in (a.loads, a.clock)
 
-    go : (o : Option ℕ) → run_word (board flat) s.hart (board_of s) o ≡ Waits → (loads_clock s.hart (elim o [ Some word ↦ decoded word | None ↦ None ]) ≡ true) × (s.devices.clock ≡ None)
+    go : (o : Option ℕ) → run_word (board flat) s.hart (board_of s) o ≡ Waits → (loads_clock s.hart (option_and_then decoded o) ≡ true) × (s.devices.clock ≡ None)
     go None h = absurd cc
     go (Some word) h = by_inst word (decoded word) h
 
