@@ -1,5 +1,5 @@
 -- An option's value, once all words have been seen.
-use Rattle.std.proofs.Common.{◌≡◌, ℕ, ◌<◌, ◌++◌, List, [], ◌∷◌, length, Option, Some, None, refl, sym, ◌∙◌, arith}
+use Rattle.std.proofs.Common.{◌≡◌, ℕ, ◌<◌, ◌++◌, List, [], ◌∷◌, length, Option, Some, None, refl, arith}
 use Rattle.std.specs.Option.{option_to_list}
 use Rattle.avm_model.specs.Words.{at_most_one, values_of}
 

@@ -1,15 +1,13 @@
 -- Numbers and bytes that a text spells.
-use Rattle.std.proofs.Common.{◌≡◌, ◌≢◌, ℕ, zero, suc, ◌+◌, ◌*◌, ◌^◌, ◌<◌, ◌≤◌, ◌/◌, ◌%◌, ◌&&◌, ◌==◌, not, Bool, true, false, cond, List, [], ◌∷◌, length, get_or, Option, Some, None, Result, Ok, Err, ltb, refl, sym, ap, ◌∙◌, arith, inl, inr, ◌⊎◌, subst}
+use Rattle.std.proofs.Common.{◌≡◌, ◌≢◌, ℕ, zero, suc, ◌^◌, ◌<◌, ◌≤◌, ◌&&◌, ◌==◌, not, true, false, List, [], ◌∷◌, length, get_or, Option, Some, None, Result, Ok, Err, ltb, refl, sym, ap, ◌∙◌, arith, inl, inr, ◌⊎◌, subst}
 use Rattle.std.specs.Fmt.{decimal}
 use Rattle.std.specs.Result.{result_ok, OkIff}
 use Rattle.std.specs.Str.{bytes_eq}
 use Rattle.std.specs.Str.Parse.{digits_value, ParsesUnsigned, AllDigits, IsNumeral}
 use Rattle.std.proofs.lemmas.Bool.{ltb-true, lt-ltb}
-use Rattle.std.proofs.lemmas.Bool.Decides.{Decides-eqb}
 use Rattle.std.proofs.lemmas.Fmt.{decimal_is_IsNumeral, decimal-digits_value, decimal_digit, first_decimal}
 use Rattle.std.proofs.lemmas.Slice.Eq.{bytes_eq-Decides}
 use Rattle.std.proofs.lemmas.Str.Parse.{IsNumeralModel, numerals_by_value, tells_digits, parse_plain, digit_from_value}
-use Rattle.avm_num.specs.Bytes.{◌>>=◌, kept}
 use Rattle.avm_num.proofs.Numbers.{kept_some, and_true}
 use Rattle.avm_model.specs.Words.{number_of}
 use Rattle.avm_script.specs.Plain.{plain}
@@ -38,7 +36,7 @@ number_is limit n text e lt small =
 pub number_none : (limit : ℕ) (text : List ℕ) → ((n : ℕ) → n < limit → text ≡ decimal n → ⊥) → number_of limit text ≡ None
 number_none limit text never =
     let go : (r : Option ℕ) → number_of limit text ≡ r → number_of limit text ≡ None =
-        λ r. elim r as (λ r. number_of limit text ≡ r → number_of limit text ≡ None) [ None ↦ λ e. e | Some n ↦ λ e. let s = number_some limit n text e in absurd (never n s.1 s.0) ] in
+    λ r. elim r as (λ r. number_of limit text ≡ r → number_of limit text ≡ None) [ None ↦ λ e. e | Some n ↦ λ e. let s = number_some limit n text e in absurd (never n s.1 s.0) ] in
     go (number_of limit text) refl
 
 -- a number's first byte is a digit, and no needless zero
@@ -59,31 +57,31 @@ pub plain_no : (text : List ℕ) → plain text ≡ false → number_of (2 ^ 64)
 plain_no [] h = absurd cc
 plain_no (d ∷ []) h = number_none (2 ^ 64) (d ∷ []) (λ n small e. first_digit n d [] small e (sign d h))
   where
-  sign : (d : ℕ) → not (d == 43) ≡ false → d ≡ 43
-  sign d h = grind arith
+    sign : (d : ℕ) → not (d == 43) ≡ false → d ≡ 43
+    sign d h = grind arith
 plain_no (d ∷ c ∷ text) h = number_none (2 ^ 64) (d ∷ c ∷ text) (λ n small e. elim (either d h) [ inl s ↦ first_digit n d (c ∷ text) small e s | inr z ↦ no_zero n d c text small e z ])
   where
-  either : (d : ℕ) → (not (d == 43) && not (d == 48)) ≡ false → (d ≡ 43) ⊎ (d ≡ 48)
-  either d h = grind arith
+    either : (d : ℕ) → (not (d == 43) && not (d == 48)) ≡ false → (d ≡ 43) ⊎ (d ≡ 48)
+    either d h = grind arith
 
 pub plain_front : (text : List ℕ) → plain text ≡ true → get_or text 0 0 ≢ 43
 plain_front [] h = λ e. omega (arith, e)
 plain_front (d ∷ []) h = sign d h
   where
-  sign : (d : ℕ) → not (d == 43) ≡ true → d ≢ 43
-  sign d h = λ e. grind arith
+    sign : (d : ℕ) → not (d == 43) ≡ true → d ≢ 43
+    sign d h = λ e. grind arith
 plain_front (d ∷ c ∷ text) h = sign d h
   where
-  sign : (d : ℕ) → (not (d == 43) && not (d == 48)) ≡ true → d ≢ 43
-  sign d h = λ e. grind arith
+    sign : (d : ℕ) → (not (d == 43) && not (d == 48)) ≡ true → d ≢ 43
+    sign d h = λ e. grind arith
 
 pub plain_zero : (text : List ℕ) → plain text ≡ true → 0 < length text → get_or text 0 0 ≡ 48 → length text ≡ 1
 plain_zero [] h some z = absurd (omega arith)
 plain_zero (d ∷ []) h some z = refl
 plain_zero (d ∷ c ∷ text) h some z = absurd (none d h z)
   where
-  none : (d : ℕ) → (not (d == 43) && not (d == 48)) ≡ true → d ≢ 48
-  none d h = λ e. grind arith
+    none : (d : ℕ) → (not (d == 43) && not (d == 48)) ≡ true → d ≢ 48
+    none d h = λ e. grind arith
 
 -- what parsing gives for a text without a sign or a needless zero in front
 pub plain_parsed : {E : Type 0} (text : List ℕ) (r : Result ℕ E) → ParsesUnsigned 64 10 text r → plain text ≡ true → result_ok r ≡ number_of (2 ^ 64) text
@@ -95,10 +93,10 @@ plain_parsed {E} text (Ok x) h p =
 plain_parsed text (Err e) h p =
     let g : OkIff (Err e) (AllDigits 10 text × (0 < length text) × (digits_value 10 text < 2 ^ 64)) (digits_value 10 text) = parse_plain own 64 text (Err e) h (plain_front text p) in
     sym (number_none (2 ^ 64) text (λ n small is.
-        let d = decimal_is_IsNumeral n small in
-        let numeral : IsNumeral 10 text = subst (IsNumeral 10) (sym is) d.0 in
-        let v : digits_value 10 text ≡ n = ap (digits_value 10) is ∙ d.1 in
-        g (numeral.1, numeral.0, omega arith)))
+    let d = decimal_is_IsNumeral n small in
+    let numeral : IsNumeral 10 text = subst (IsNumeral 10) (sym is) d.0 in
+    let v : digits_value 10 text ≡ n = ap (digits_value 10) is ∙ d.1 in
+    g (numeral.1, numeral.0, omega arith)))
 
 -- the same number below a smaller limit
 pub small_some : (n : ℕ) (text : List ℕ) → number_of (2 ^ 64) text ≡ Some n → n < 2 ^ 32 → number_of (2 ^ 32) text ≡ Some n
@@ -113,5 +111,5 @@ small_over n text e over = number_none (2 ^ 32) text (λ m lt is.
     let same : n ≡ m = one n m (sym e ∙ s) in
     omega arith)
   where
-  one : (n m : ℕ) → Some n ≡ Some m → n ≡ m
-  one n m e = cc
+    one : (n m : ℕ) → Some n ≡ Some m → n ≡ m
+    one n m e = cc

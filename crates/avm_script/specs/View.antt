@@ -1,5 +1,5 @@
 -- A job in data.
-use Rattle.std.specs.Prelude.{ℕ, List, Option, Some, None, option_map}
+use Rattle.std.specs.Prelude.{ℕ, List, Option, option_map}
 use Rattle.std.specs.Borrow.{Bor}
 use Rattle.avm_model.specs.Job.{SignedData, JobData, keygen, format, record_job, export, audit, check, rebut, list, sample}
 use Rattle.avm_script.specs.declared.types.Signed.{Signed}

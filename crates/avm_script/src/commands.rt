@@ -64,7 +64,14 @@ pub fn record(words: &[String]) -> Option<Job<'_>>
 {
     if !is_paired(
         words,
-        &["--store", "--key", "--script", "--packets", "--console", "--auths"],
+        &[
+            "--store",
+            "--key",
+            "--script",
+            "--packets",
+            "--console",
+            "--auths",
+        ],
     ) {
         return None;
     }

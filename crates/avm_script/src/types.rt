@@ -54,11 +54,21 @@ pub enum Job<'a> {
         signed: Option<Signed<'a>>,
     },
     /// Judges evidence.
-    Check { key: &'a str, evidence: &'a str },
+    Check {
+        key: &'a str,
+        evidence: &'a str,
+    },
     /// Answers evidence by a store.
-    Rebut { store: &'a str, evidence: &'a str },
+    Rebut {
+        store: &'a str,
+        evidence: &'a str,
+    },
     /// Prints a store.
-    List { store: &'a str },
+    List {
+        store: &'a str,
+    },
     /// Runs the sample.
-    Sample { seed: u32 },
+    Sample {
+        seed: u32,
+    },
 }

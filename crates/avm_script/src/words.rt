@@ -4,9 +4,8 @@ ghost use Rattle.std.specs.Result.{result_ok};
 ghost use Rattle.avm_model.specs.Job.{first_asked, commands, job_of, store_of, spare_of, value_of};
 ghost use Rattle.avm_script.specs.View.{job_view, text_view};
 
-use crate::commands;
 use crate::options::once;
-use crate::{BadWords, Job};
+use crate::{BadWords, Job, commands};
 
 /// The job that the words name: a command, then options and values in pairs, in any order. BadWords exactly where
 /// they name none.

@@ -1,4 +1,4 @@
-use Rattle.std.proofs.Common.{map, string_bytes, sym, ◌∙◌, arith, length}
+use Rattle.std.proofs.Common.{map, string_bytes, sym, ◌∙◌, arith}
 use Rattle.avm_script.specs.View.{text_view}
 use Rattle.avm_script.proofs.Given.{given_end}
 use Rattle.avm_script.proofs.options.given.Goals as goal

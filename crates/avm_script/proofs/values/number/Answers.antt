@@ -1,4 +1,4 @@
-use Rattle.std.proofs.Common.{◌≡◌, List, ℕ, true, false, sym, ◌∙◌, ap}
+use Rattle.std.proofs.Common.{◌≡◌, true, sym, ◌∙◌, ap}
 use Rattle.avm_script.specs.Plain.{plain}
 use Rattle.avm_script.proofs.Spelled.{plain_no, plain_parsed}
 use Rattle.avm_script.proofs.values.number.Goals as goal

@@ -1,4 +1,4 @@
-use Rattle.std.proofs.Common.{sym, ◌∙◌, arith}
+use Rattle.std.proofs.Common.{sym, arith}
 use Rattle.avm_script.proofs.Spelled.{small_some, small_none, small_over}
 use Rattle.avm_script.proofs.values.small_number.Goals as goal
 
