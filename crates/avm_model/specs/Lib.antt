@@ -36,3 +36,8 @@ pub mod Entries
 pub mod Segment
 pub mod Words
 pub mod Job
+pub mod Marks
+pub mod Verdict
+pub mod Evidence
+pub mod Audit
+pub mod Holds

@@ -1,11 +1,13 @@
 //! The words that the machine's contracts are written in: its instructions, and their meaning in `specs/`.
 #![tactic(auto)]
 
+mod judged;
 mod laws;
 
 ghost use Rattle.std.specs.Prelude.{◌≡◌};
 ghost use Rattle.avm_model.specs.Values.{bytes_of};
 
+pub use judged::{Mark, Marked, Verdict};
 pub use laws::{
     entries_are_short, fronts_replay, judged_as_replayed, misplaced_inputs, one_first_fault,
     recorded_replays, reference_is_short, reference_is_timed, run_by_rules,
