@@ -16,3 +16,4 @@ pub mod PageDepth
 pub mod StepLaws
 pub mod ReferenceLaws
 pub mod ReferenceShort
+pub mod PeerLaws

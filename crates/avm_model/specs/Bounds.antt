@@ -4,6 +4,7 @@ use Rattle.std.specs.List.{list_any}
 use Rattle.std.specs.Int.{w32, from_be_bytes}
 use Rattle.avm_model.specs.Memory.{is_page_count}
 use Rattle.avm_model.specs.Device.{MessageState}
+pub use Rattle.avm_model.specs.Memory.{is_page_count}
 use Rattle.avm_model.specs.declared.Peer.{Peer}
 use Rattle.avm_model.specs.declared.Status.{Status}
 use Rattle.avm_model.specs.declared.Status.TheVariants.{Running, Waiting, Halted}

@@ -41,3 +41,4 @@ pub mod Verdict
 pub mod Evidence
 pub mod Audit
 pub mod Holds
+pub mod DeviceBounds

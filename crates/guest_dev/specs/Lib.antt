@@ -1,0 +1,3 @@
+pub mod DevGot
+pub mod Kept
+pub mod Shown
