@@ -1,0 +1,11 @@
+//! The program's one call, over files, disks and a sink that are handed in.
+#![tactic(auto)]
+
+mod ends;
+mod fault;
+mod printing;
+mod reading;
+mod writing;
+
+pub use ends::{End, FileOption};
+use fault::Fault;
