@@ -1,6 +1,6 @@
 -- A file that is read piece by piece.
-use Rattle.std.proofs.Common.{◌≡◌, ℕ, zero, suc, ◌^◌, ◌+◌, ◌≤◌, ◌<◌, List, [], ◌++◌, length, take, drop, min, Option, None, Some, IfSome, option_map, ◌⊎◌, refl, sym, ◌∙◌, ap, subst, arith, length-append}
-use Rattle.std.proofs.lemmas.List.{length-take, length-take-le, take-append-le, take-take, take_all}
+use Rattle.std.proofs.Common.{◌≡◌, ℕ, zero, suc, ◌+◌, ◌≤◌, ◌<◌, List, [], ◌++◌, length, take, drop, Option, None, Some, IfSome, refl, sym, ◌∙◌, ap, subst, arith, length-append}
+use Rattle.std.proofs.lemmas.List.{length-take-le, take-append-le, take-take, take_all}
 use Rattle.std.proofs.Math.Seq.{take-add}
 use Rattle.avm_outside.specs.Files.{IsCopied, Reads}
 use Rattle.avm_top.specs.Reading.{IsFront, IsReadOf}

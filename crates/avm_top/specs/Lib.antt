@@ -2,3 +2,5 @@ pub mod Reading
 pub mod Writing
 pub mod Ends
 pub mod Printing
+pub mod Jobs
+pub mod Outcomes

@@ -5,7 +5,9 @@ mod ends;
 mod fault;
 mod printing;
 mod reading;
+mod top;
 mod writing;
 
 pub use ends::{End, FileOption};
 use fault::Fault;
+pub use top::avm;

@@ -1,7 +1,6 @@
-use Rattle.std.proofs.Common.{◌≡◌, ◌+◌, ◌-◌, ◌≤◌, ◌<◌, ℕ, List, ◌++◌, Some, None, IfSome, min, take, length, subst, sym, ◌∙◌, ap, rules, arith, length-append}
+use Rattle.std.proofs.Common.{ℕ, Some, None, IfSome, length, ap, rules, arith, length-append}
 use Rattle.std.proofs.lemmas.List.{length-take}
 use Rattle.avm_outside.specs.Files.{Reads}
-use Rattle.avm_top.specs.Reading.{IsFront}
 use Rattle.avm_top.proofs.Fronts.{front_step, read_none, read_end, read_enough, read_gone}
 use Rattle.avm_top.proofs.reading.read_file.Goals as goal
 

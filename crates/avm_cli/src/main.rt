@@ -1,0 +1,50 @@
+//! The program: its words, the files of the system, and standard output.
+#![tactic(auto)]
+
+mod counted;
+mod real_disk;
+mod real_files;
+mod real_sink;
+
+use avm_top::avm;
+use real_disk::RealDisk;
+use real_files::RealFiles;
+use real_sink::RealSink;
+use std::alloc::AllocError;
+use std::process::ExitCode;
+use std::{env, io};
+
+fn main(rt: HostRuntime) -> ExitCode {
+    let mut files = RealFiles::new(&rt);
+    let mut disk = RealDisk::absent();
+    let mut spare = RealDisk::absent();
+    let mut out = RealSink::new(&rt);
+    let words = match words(&rt) {
+        Ok(words) => words,
+        Err(AllocError) => return ExitCode::from(5),
+    };
+    let status = avm(
+        rt.alloc(),
+        &words,
+        &mut files,
+        &mut disk,
+        &mut spare,
+        &mut out,
+    );
+    ExitCode::from(status)
+}
+
+// The words after the program's name; none where one isn't text.
+fn words(rt: &HostRuntime) -> Result<Vec<String>, AllocError> {
+    let mut words = Vec::new(rt.alloc());
+    match env::args(rt) {
+        Ok(args) => {
+            for word in args.skip(1) {
+                words.push(word)?;
+            }
+            Ok(words)
+        }
+        Err(error) if error.kind() == io::ErrorKind::OutOfMemory => Err(AllocError),
+        Err(_) => Ok(words),
+    }
+}

@@ -1,0 +1,61 @@
+// The top call: what the words ask for is done, and one line is printed.
+ghost use Rattle.std.specs.Prelude.{◌≡◌, ◌≢◌, ◌⊎◌, ℕ, List, map, IfOk, IsErrOf, string_bytes};
+ghost use Rattle.avm_model.specs.Job.{job_of};
+ghost use Rattle.avm_outside.specs.Outside.{Rises};
+ghost use Rattle.avm_top.specs.Ends.{line};
+ghost use Rattle.avm_top.specs.Jobs.{EndsAs, LeavesAs, IsNoneOf, written_by};
+ghost use Rattle.avm_top.specs.Outcomes.{Outcome, Reaches, text_of_outcome, status_of_outcome};
+ghost use Rattle.avm_top.specs.Printing.{Printed};
+
+use crate::printing::{line, print};
+use crate::{End, Fault};
+use avm_outside::{Disk, Files, Sink};
+use avm_script::{BadWords, job};
+use std::alloc::{AllocError, Global};
+
+/// Does what the words ask for, prints its line, and gives its status: 0 done, accepted or stands; 1 a fault was found
+/// and evidence is written; 2 refused by content; 3 the words or an input file refused; 4 a fault of the outside; 5 want
+/// of memory. The disk is the store of the job, the spare the one that a store is moved into.
+pub fn avm<F: Files, D: Disk, E: Disk, S: Sink>(
+    alloc: Global,
+    words: &[String],
+    files: &mut F,
+    disk: &mut D,
+    spare: &mut E,
+    out: &mut S,
+) -> u8
+    // an outcome that the words and the files give, with its line and status
+    ensures ends { (o : Outcome) × Reaches o (job_of (map string_bytes words.now)) (F.file files.old) (F.file files.new) (F.faults files.old) (F.faults files.new)
+        × Printed (line (text_of_outcome o)) (status_of_outcome o) (S.faults out.old) (S.faults out.new) (S.written out.old) (S.written out.new) result }
+    // 4 exactly where a count rose
+    ensures four { result ≡ 4 → Rises (F.faults files.old) (F.faults files.new) ⊎ Rises (S.faults out.old) (S.faults out.new) }
+    ensures not_four { result ≢ 4 → (F.faults files.new ≡ F.faults files.old) × (S.faults out.new ≡ S.faults out.old) }
+    // no other file is changed
+    ensures files { (n : List ℕ) → IsNoneOf (written_by (job_of (map string_bytes words.now))) n → F.file files.new n ≡ F.file files.old n }
+    // no call on the disk or the spare
+    ensures disk { disk.new ≡ disk.old }
+    ensures spare { spare.new ≡ spare.old }
+{
+    match run(alloc, words, files) {
+        Ok(end) => match line(alloc, &end) {
+            Ok(line) => print(out, line.as_bytes(), end.status()),
+            Err(AllocError) => print(out, b"no memory\n", 5),
+        },
+        Err(Fault::NoMemory) => print(out, b"no memory\n", 5),
+        Err(Fault::Files) => print(out, b"fault files\n", 4),
+    }
+}
+
+// Does the job.
+fn run<F: Files>(alloc: Global, words: &[String], files: &mut F) -> Result<End, Fault>
+    ensures ends { IfOk result (λ end. EndsAs (job_of (map string_bytes words.now)) (F.file files.old) (F.file files.new) end) }
+    ensures left { IsErrOf result Fault.Files → LeavesAs (job_of (map string_bytes words.now)) (F.file files.old) (F.file files.new) }
+    ensures files { (n : List ℕ) → IsNoneOf (written_by (job_of (map string_bytes words.now))) n → F.file files.new n ≡ F.file files.old n }
+    ensures fault { IsErrOf result Fault.Files → Rises (F.faults files.old) (F.faults files.new) }
+    ensures no_fault { result ≢ Err Fault.Files → F.faults files.new ≡ F.faults files.old }
+{
+    match job(words) {
+        Err(BadWords) => Ok(End::RefusedWords),
+        Ok(_) => Ok(End::RefusedNotBuilt),
+    }
+}
