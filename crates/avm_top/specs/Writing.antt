@@ -1,6 +1,10 @@
--- A file that is written whole.
+-- Files, and one that is written whole.
 use Rattle.std.specs.Prelude.{◌≡◌, ◌⊎◌, ℕ, List, take, Option, Some, option_map}
 use Rattle.avm_outside.specs.Outside.{BothTold}
+
+-- files by their names: not told, not there, or their bytes
+abbrev pub FileMap : Type 0
+FileMap = List ℕ → Option (Option (List ℕ))
 
 -- the file holds these bytes, where the object tells it
 abbrev pub holding : List ℕ → Option (Option (List ℕ)) → Option (Option (List ℕ))

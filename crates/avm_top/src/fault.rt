@@ -3,6 +3,7 @@ ghost use Rattle.std.specs.Prelude.{◌≡◌};
 ghost use Rattle.avm_top.specs.declared.fault.Fault.TheVariants as fault;
 
 use avm_num::NoMemory;
+use avm_outside::Failed;
 use std::alloc::AllocError;
 
 /// Memory ran out, or a call on the files failed.
@@ -25,5 +26,13 @@ impl From<NoMemory> for Fault {
 
     fn from(_: NoMemory) -> Self {
         Fault::NoMemory
+    }
+}
+
+impl From<Failed> for Fault {
+    ghost from_gives = { λ _ e. e ≡ fault.Files };
+
+    fn from(_: Failed) -> Self {
+        Fault::Files
     }
 }

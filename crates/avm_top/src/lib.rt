@@ -3,6 +3,7 @@
 
 mod ends;
 mod fault;
+mod keygen;
 mod printing;
 mod reading;
 mod top;

@@ -7,10 +7,11 @@ ghost use Rattle.avm_top.specs.Jobs.{EndsAs, LeavesAs, IsNoneOf, written_by};
 ghost use Rattle.avm_top.specs.Outcomes.{Outcome, Reaches, text_of_outcome, status_of_outcome};
 ghost use Rattle.avm_top.specs.Printing.{Printed};
 
+use crate::keygen::{key_of, keygen};
 use crate::printing::{line, print};
 use crate::{End, Fault};
 use avm_outside::{Disk, Files, Sink};
-use avm_script::{BadWords, job};
+use avm_script::{BadWords, Job, job};
 use std::alloc::{AllocError, Global};
 
 /// Does what the words ask for, prints its line, and gives its status: 0 done, accepted or stands; 1 a fault was found
@@ -56,6 +57,16 @@ fn run<F: Files>(alloc: Global, words: &[String], files: &mut F) -> Result<End, 
 {
     match job(words) {
         Err(BadWords) => Ok(End::RefusedWords),
+        Ok(
+            Job::Keygen {
+                height,
+                w,
+                id,
+                seed,
+                key,
+                public,
+            },
+        ) => { keygen(alloc, files, key_of(height, w, id, seed), key, public) }
         Ok(_) => Ok(End::RefusedNotBuilt),
     }
 }
