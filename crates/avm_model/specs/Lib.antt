@@ -42,3 +42,5 @@ pub mod Evidence
 pub mod Audit
 pub mod Holds
 pub mod DeviceBounds
+pub mod Image
+pub mod ImageState

@@ -3,6 +3,7 @@
 
 mod judged;
 mod laws;
+mod loading;
 
 ghost use Rattle.std.specs.Prelude.{◌≡◌};
 ghost use Rattle.avm_model.specs.Values.{bytes_of};
@@ -12,6 +13,7 @@ pub use laws::{
     entries_are_short, fronts_replay, judged_as_replayed, misplaced_inputs, one_first_fault,
     recorded_replays, reference_is_short, reference_is_timed, run_by_rules,
 };
+pub use loading::{LoadFault, ProgramHeader};
 
 /// A conditional branch.
 #[derive(Clone, Copy, Debug, PartialEq, Eq)]

@@ -1,7 +1,7 @@
 //! RAM.
 
-ghost use Rattle.std.specs.Prelude.{◌≡◌, ◌<◌, ◌≤◌, ◌+◌, ◌*◌, ◌^◌, length, IsTrue, is_some, slice_get, slice_set, slice_range, replicate, Some, IfSome, IfOk, true, false};
-ghost use Rattle.avm_model.specs.Memory.{RamState, IsRam, place_in, number_at, with_number, ram_load, ram_store, stored_ram, IsSize, is_page_count, put_page};
+ghost use Rattle.std.specs.Prelude.{◌≡◌, ◌<◌, ◌≤◌, ◌+◌, ◌-◌, ◌*◌, ◌^◌, length, IsTrue, is_some, slice_get, slice_set, slice_range, replicate, Some, IfSome, IfOk, true, false};
+ghost use Rattle.avm_model.specs.Memory.{RamState, IsRam, place_in, number_at, with_number, ram_load, ram_store, stored_ram, IsSize, is_page_count, put_at, put_page, marked_from, marked_range};
 
 use avm_num::NoMemory;
 use std::alloc::Global;
@@ -98,6 +98,36 @@ impl Ram {
         self.dirty[i as usize] = true;
     }
 
+    /// Puts bytes at a place, counted from the first address, and marks their pages.
+    pub fn put(&mut self, at: u32, bytes: &[u8])
+        requires { at + length bytes.now ≤ length self.old.bytes }
+        ensures value { self.new ≡ record { bytes = put_at self.old.bytes at bytes.now; dirty = marked_range self.old.dirty at (length bytes.now) } }
+        ensures len { length self.new.bytes ≡ length self.old.bytes }
+        ensures pages { length self.new.dirty ≡ length self.old.dirty }
+    {
+        let from = at as usize;
+        let to = from + bytes.len();
+        self.bytes[from..to].copy_from_slice(bytes);
+        if from < to {
+            mark(self.dirty.as_mut_slice(), from / PAGE, (to - 1) / PAGE + 1);
+        }
+    }
+
+    /// Puts zeros at a place, counted from the first address, and marks their pages.
+    pub fn clear(&mut self, at: u32, count: u32)
+        requires { at + count ≤ length self.old.bytes }
+        ensures value { self.new ≡ record { bytes = put_at self.old.bytes at (replicate count 0); dirty = marked_range self.old.dirty at count } }
+        ensures len { length self.new.bytes ≡ length self.old.bytes }
+        ensures pages { length self.new.dirty ≡ length self.old.dirty }
+    {
+        let from = at as usize;
+        let to = from + count as usize;
+        self.bytes[from..to].fill(0);
+        if from < to {
+            mark(self.dirty.as_mut_slice(), from / PAGE, (to - 1) / PAGE + 1);
+        }
+    }
+
     /// All bytes, from the first address on.
     pub fn bytes(&self) -> &[u8]
         ensures value { result.now ≡ self.now.bytes }
@@ -151,10 +181,18 @@ fn word(bytes: &[u8], at: usize) -> u32
     requires { at + 4 ≤ length bytes.now }
     ensures value { result ≡ number_at 4 bytes.now at }
 {
-    bytes[at] as u32
-        + 256 * bytes[at + 1] as u32
-        + 65536 * bytes[at + 2] as u32
-        + 16777216 * bytes[at + 3] as u32
+    u32::from_le_bytes(four(&bytes[at..at + 4]))
+}
+
+/// Four bytes as an array.
+fn four(bytes: &[u8]) -> [u8; 4]
+    requires { length bytes.now ≡ 4 }
+    ensures { result ≡ bytes.now }
+{
+    match bytes.try_into() {
+        Ok(array) => array,
+        Err(_) => unreachable!(),
+    }
 }
 
 /// The number that `count` bytes spell, the low byte first.
@@ -190,6 +228,18 @@ fn write(bytes: &mut [u8], at: usize, count: u32, value: u32)
     }
     bytes[at + 2] = (value / 256 / 256 % 256) as u8;
     bytes[at + 3] = (value / 256 / 256 / 256 % 256) as u8;
+}
+
+/// Marks the pages from one up to another.
+fn mark(dirty: &mut [bool], from: usize, to: usize)
+    requires order { from ≤ to }
+    requires inside { to ≤ length dirty.old }
+    ensures value { dirty.new ≡ marked_from dirty.old from (to - from) }
+    ensures len { length dirty.new ≡ length dirty.old }
+{
+    for i in from..to {
+        dirty[i] = true;
+    }
 }
 
 /// The bytes as a page.
