@@ -1,0 +1,3 @@
+pub mod EvidenceLaws
+pub mod Joined
+pub mod Forks
