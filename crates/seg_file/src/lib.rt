@@ -9,3 +9,6 @@ mod writing;
 pub use front::Segment;
 pub use reading::read_segment;
 pub use writing::put_front;
+
+#[cfg(test)]
+mod tests;

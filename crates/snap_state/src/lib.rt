@@ -10,3 +10,6 @@ mod put;
 mod words;
 
 pub use parts::read_head;
+
+#[cfg(test)]
+mod tests;

@@ -1,0 +1,260 @@
+use crate::read_head;
+use std::alloc::{AllocError, Global};
+use std::rt::HostRuntime;
+
+/// Appends so many times a byte.
+fn push_many(out: &mut Vec<u8>, count: usize, byte: u8) -> Result<(), AllocError> {
+    for _ in 0..count {
+        out.push(byte)?;
+    }
+    Ok(())
+}
+
+/// The peers and lengths of a head that is made here.
+#[derive(Clone, Copy)]
+struct Shape<'a> {
+    own: u8,
+    ids: &'a [u8],
+    line: usize,
+    console: usize,
+    messages: u8,
+    payload: usize,
+    status: u8,
+}
+
+/// A row: sent 2, acknowledged 1, received 9.
+fn push_peer(out: &mut Vec<u8>, id: u8) -> Result<(), AllocError> {
+    out.extend_from_slice(&[id, 0, 0, 0, 5, 0, 0, 0, 4])?;
+    push_many(out, 48, 9)?;
+    out.extend_from_slice(&[0, 0, 0, 0, 0, 0, 0, 2])?;
+    out.extend_from_slice(&[0, 0, 0, 0, 0, 0, 0, 1])?;
+    out.extend_from_slice(&[0, 0, 0, 0, 0, 0, 0, 9])
+}
+
+/// Who the machine is, with 4 pages, and its hart at count 5.
+fn push_front(out: &mut Vec<u8>, shape: Shape<'_>) -> Result<(), AllocError> {
+    out.extend_from_slice(&[1, shape.own, 0, 0, 4, 0, 0, 0, 0, 4])?;
+    out.push(shape.ids.len() as u8)?;
+    for id in shape.ids {
+        push_peer(out, *id)?;
+    }
+    push_many(out, 124, 3)?;
+    out.extend_from_slice(&[128, 0, 0, 0])?;
+    out.extend_from_slice(&[0, 0, 0, 0, 0, 0, 0, 5, shape.status])
+}
+
+/// A head: the line is of a, the console queue of line ends, and the messages come from the last peer.
+fn head(alloc: Global, shape: Shape<'_>) -> Result<Vec<u8>, AllocError> {
+    let mut out = Vec::new(alloc);
+    push_front(&mut out, shape)?;
+    out.extend_from_slice(&[1, 2, 3, 4])?;
+    out.push(shape.line as u8)?;
+    push_many(&mut out, shape.line, 97)?;
+    out.extend_from_slice(&(shape.console as u16).to_be_bytes())?;
+    push_many(&mut out, shape.console, 10)?;
+    out.push(shape.messages)?;
+    let from = shape.ids.last().copied().unwrap_or(0);
+    for _ in 0..shape.messages {
+        out.push(from)?;
+        out.extend_from_slice(&(shape.payload as u16).to_be_bytes())?;
+        push_many(&mut out, shape.payload, 200)?;
+    }
+    push_many(&mut out, 1036, 0)?;
+    Ok(out)
+}
+
+/// A head of 1364 bytes with two peers, a line, a console queue and a message.
+fn middle(alloc: Global) -> Result<Vec<u8>, AllocError> {
+    let shape = Shape {
+        own: 3,
+        ids: &[1, 5],
+        line: 2,
+        console: 3,
+        messages: 1,
+        payload: 2,
+        status: 0,
+    };
+    head(alloc, shape)
+}
+
+/// Whether the bytes with two of them changed are a head.
+fn judged(mut bytes: Vec<u8>, first: (usize, u8), second: (usize, u8)) -> bool {
+    if let Some(byte) = bytes.get_mut(first.0) {
+        *byte = first.1;
+    }
+    if let Some(byte) = bytes.get_mut(second.0) {
+        *byte = second.1;
+    }
+    read_head(bytes.as_slice())
+}
+
+#[test]
+fn a_changed_byte_is_judged(rt: HostRuntime) {
+    // The place of a byte and its new value, and whether that is a head.
+    let rows: [(usize, u8, bool); 81] = [
+        (0, 1, true),
+        (0, 0, false),
+        (0, 2, false),
+        (1, 0, true),
+        (1, 15, true),
+        (1, 16, false),
+        (1, 255, false),
+        (1, 1, false),
+        (1, 5, false),
+        (2, 1, false),
+        (3, 255, true),
+        (4, 3, false),
+        (4, 255, true),
+        (5, 1, true),
+        (6, 1, false),
+        (9, 0, false),
+        (9, 1, true),
+        (9, 3, false),
+        (9, 8, true),
+        (9, 12, false),
+        (10, 0, false),
+        (10, 1, false),
+        (10, 3, false),
+        (11, 0, true),
+        (11, 3, false),
+        (11, 4, true),
+        (11, 5, false),
+        (11, 6, false),
+        (92, 1, false),
+        (92, 0, false),
+        (12, 1, false),
+        (15, 4, false),
+        (15, 9, true),
+        (15, 10, false),
+        (16, 1, false),
+        (19, 0, false),
+        (19, 1, true),
+        (19, 5, false),
+        (20, 255, true),
+        (96, 4, false),
+        (75, 1, true),
+        (75, 0, false),
+        (75, 3, false),
+        (83, 2, true),
+        (83, 0, false),
+        (83, 3, false),
+        (76, 1, false),
+        (84, 63, true),
+        (84, 64, false),
+        (173, 255, true),
+        (297, 255, true),
+        (300, 1, false),
+        (300, 2, false),
+        (300, 4, true),
+        (301, 63, true),
+        (301, 64, false),
+        (308, 2, true),
+        (308, 1, false),
+        (309, 1, false),
+        (309, 2, false),
+        (309, 3, false),
+        (310, 255, true),
+        (314, 1, false),
+        (314, 3, false),
+        (315, 10, false),
+        (316, 10, false),
+        (315, 9, true),
+        (318, 2, false),
+        (319, 0, true),
+        (322, 0, false),
+        (322, 2, false),
+        (323, 1, true),
+        (323, 2, false),
+        (323, 3, false),
+        (325, 1, false),
+        (325, 3, false),
+        (328, 255, true),
+        (332, 255, true),
+        (339, 3, true),
+        (339, 4, false),
+        (1363, 255, true),
+    ];
+    for (place, value, want) in rows {
+        let Ok(bytes) = middle(rt.alloc()) else {
+            assert!(&rt; false);
+            return;
+        };
+        assert!(&rt; judged(bytes, (place, value), (place, value)) == want, "{value} at {place}");
+    }
+}
+
+#[test]
+fn two_changed_bytes_are_judged(rt: HostRuntime) {
+    let rows: [((usize, u8), (usize, u8), bool); 11] = [
+        ((2, 1), (4, 0), true),
+        ((4, 3), (5, 255), false),
+        ((8, 16), (9, 0), true),
+        ((8, 32), (9, 0), false),
+        ((75, 5), (83, 5), true),
+        ((75, 6), (83, 6), false),
+        ((92, 15), (323, 15), true),
+        ((92, 15), (323, 5), false),
+        ((92, 16), (323, 16), false),
+        ((336, 1), (339, 3), false),
+        ((1, 0), (11, 0), false),
+    ];
+    for (first, second, want) in rows {
+        let Ok(bytes) = middle(rt.alloc()) else {
+            assert!(&rt; false);
+            return;
+        };
+        assert!(&rt; judged(bytes, first, second) == want, "{first:?} and {second:?}");
+    }
+}
+
+#[test]
+fn lengths_and_statuses_are_judged(rt: HostRuntime) {
+    // The lengths of line and console queue, the messages and the length of each, the status, and whether that is a head.
+    let rows: [(usize, usize, u8, usize, u8, bool); 17] = [
+        (0, 0, 0, 0, 0, true),
+        (127, 0, 0, 0, 0, true),
+        (128, 0, 0, 0, 0, false),
+        (0, 1024, 0, 0, 0, true),
+        (0, 1025, 0, 0, 0, false),
+        (0, 0, 8, 0, 0, true),
+        (0, 0, 9, 0, 0, false),
+        (0, 0, 1, 1024, 0, true),
+        (0, 0, 1, 1025, 0, false),
+        (0, 0, 0, 0, 1, true),
+        (1, 0, 0, 0, 1, true),
+        (0, 1, 0, 0, 1, false),
+        (0, 0, 1, 0, 1, false),
+        (0, 0, 0, 0, 2, true),
+        (1, 0, 0, 0, 2, false),
+        (0, 5, 2, 7, 2, true),
+        (127, 1024, 8, 1024, 0, true),
+    ];
+    for (line, console, messages, payload, status, want) in rows {
+        let shape = Shape {
+            own: 7,
+            ids: &[0, 1, 2, 3, 4, 5, 6, 8, 9, 10, 11, 12, 13, 14, 15],
+            line,
+            console,
+            messages,
+            payload,
+            status,
+        };
+        let Ok(bytes) = head(rt.alloc(), shape) else {
+            assert!(&rt; false);
+            return;
+        };
+        assert!(&rt; read_head(bytes.as_slice()) == want, "{line} {console} {messages} {payload} {status}");
+    }
+}
+
+#[test]
+fn a_head_has_its_length(rt: HostRuntime) {
+    let Ok(mut bytes) = middle(rt.alloc()) else {
+        assert!(&rt; false);
+        return;
+    };
+    assert!(&rt; bytes.len() == 1364 && read_head(bytes.as_slice()));
+    assert!(&rt; bytes.push(0).is_ok() && !read_head(bytes.as_slice()));
+    bytes.truncate(1363);
+    assert!(&rt; !read_head(bytes.as_slice()));
+}
