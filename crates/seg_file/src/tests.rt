@@ -11,7 +11,7 @@ const HEAD: [u8; 10] = [1, 0, 0, 0, 4, 0, 0, 0, 0, 1];
 fn push_frame(out: &mut Vec<u8>, seq: u64, kind: u8, content: &[u8]) -> Result<(), AllocError> {
     out.extend_from_slice(&seq.to_be_bytes())?;
     out.push(kind)?;
-    out.extend_from_slice(&(content.len() as u32).to_be_bytes())?;
+    out.extend_from_slice(&((content.len() % 65536) as u32).to_be_bytes())?;
     out.extend_from_slice(content)
 }
 
@@ -123,7 +123,10 @@ fn a_changed_byte_is_judged(rt: HostRuntime) {
             assert!(&rt; false);
             return;
         };
-        assert!(&rt; judged(bytes, place, value, len) == Some(want), "{value} at {place} of {len}");
+        assert!(&rt;
+            judged(bytes, place, value, len) == Some(want),
+            "{value} at {place} of {len}"
+        );
     }
 }
 

@@ -34,7 +34,7 @@ fn push_peer(out: &mut Vec<u8>, id: u8) -> Result<(), AllocError> {
 /// Who the machine is, with 4 pages, and its hart at count 5.
 fn push_front(out: &mut Vec<u8>, shape: Shape<'_>) -> Result<(), AllocError> {
     out.extend_from_slice(&[1, shape.own, 0, 0, 4, 0, 0, 0, 0, 4])?;
-    out.push(shape.ids.len() as u8)?;
+    out.push((shape.ids.len() % 256) as u8)?;
     for id in shape.ids {
         push_peer(out, *id)?;
     }
@@ -48,15 +48,15 @@ fn head(alloc: Global, shape: Shape<'_>) -> Result<Vec<u8>, AllocError> {
     let mut out = Vec::new(alloc);
     push_front(&mut out, shape)?;
     out.extend_from_slice(&[1, 2, 3, 4])?;
-    out.push(shape.line as u8)?;
+    out.push((shape.line % 256) as u8)?;
     push_many(&mut out, shape.line, 97)?;
-    out.extend_from_slice(&(shape.console as u16).to_be_bytes())?;
+    out.extend_from_slice(&((shape.console % 65536) as u16).to_be_bytes())?;
     push_many(&mut out, shape.console, 10)?;
     out.push(shape.messages)?;
     let from = shape.ids.last().copied().unwrap_or(0);
     for _ in 0..shape.messages {
         out.push(from)?;
-        out.extend_from_slice(&(shape.payload as u16).to_be_bytes())?;
+        out.extend_from_slice(&((shape.payload % 65536) as u16).to_be_bytes())?;
         push_many(&mut out, shape.payload, 200)?;
     }
     push_many(&mut out, 1036, 0)?;
@@ -179,7 +179,10 @@ fn a_changed_byte_is_judged(rt: HostRuntime) {
             assert!(&rt; false);
             return;
         };
-        assert!(&rt; judged(bytes, (place, value), (place, value)) == want, "{value} at {place}");
+        assert!(&rt;
+            judged(bytes, (place, value), (place, value)) == want,
+            "{value} at {place}"
+        );
     }
 }
 
@@ -203,7 +206,10 @@ fn two_changed_bytes_are_judged(rt: HostRuntime) {
             assert!(&rt; false);
             return;
         };
-        assert!(&rt; judged(bytes, first, second) == want, "{first:?} and {second:?}");
+        assert!(&rt;
+            judged(bytes, first, second) == want,
+            "{first:?} and {second:?}"
+        );
     }
 }
 
@@ -243,7 +249,10 @@ fn lengths_and_statuses_are_judged(rt: HostRuntime) {
             assert!(&rt; false);
             return;
         };
-        assert!(&rt; read_head(bytes.as_slice()) == want, "{line} {console} {messages} {payload} {status}");
+        assert!(&rt;
+            read_head(bytes.as_slice()) == want,
+            "{line} {console} {messages} {payload} {status}"
+        );
     }
 }
 
