@@ -44,3 +44,4 @@ pub mod Holds
 pub mod DeviceBounds
 pub mod Image
 pub mod ImageState
+pub mod PageMarks

@@ -1,0 +1,10 @@
+pub mod ClockWords
+pub mod Fields
+pub mod Flat
+pub mod Heads
+pub mod Kept
+pub mod MarkLaws
+pub mod Moves
+pub mod Multiples
+pub mod RestLaws
+pub mod Takes
