@@ -10,3 +10,6 @@ mod types;
 pub use laws::chain_equations;
 pub use signing::{candidate, public, sign};
 pub use types::{chains, width};
+
+#[cfg(test)]
+mod tests;

@@ -10,3 +10,6 @@ mod verifying;
 pub use key::{LmsKey, MakeFault};
 pub use laws::node_equations;
 pub use verifying::{is_public_key, verify};
+
+#[cfg(test)]
+mod tests;
