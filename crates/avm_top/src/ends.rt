@@ -1,7 +1,8 @@
 // How a run ends: its line and its status.
 ghost use Rattle.std.specs.Prelude.{◌≡◌, Some};
-ghost use Rattle.avm_top.specs.Ends.{status_of, text_of, option_text};
+ghost use Rattle.avm_top.specs.Ends.{status_of, text_of, option_text, status_of_verdict, text_of_verdict};
 
+use avm_model::Verdict;
 use std::fmt;
 
 /// The option whose file is refused.
@@ -39,12 +40,49 @@ pub enum End {
     RefusedFile(FileOption),
     /// The key files are written.
     KeyMade,
+    /// The verdict on a segment.
+    Judged(Verdict),
     /// The segment doesn't begin with the image's initial state.
     RefusedImage,
     /// The evidence is of the key, and holds.
     EvidenceStands,
     /// The bytes are no evidence of the key, or it doesn't hold.
     RefusedEvidence,
+}
+
+// 0 accepted; 1 a fault that evidence shows; 2 refused.
+fn verdict_status(verdict: &Verdict) -> u8
+    ensures { result ≡ status_of_verdict verdict.now }
+{
+    match verdict {
+        Verdict::Accepted { .. } => 0,
+        Verdict::Double(..) | Verdict::Fork(..) | Verdict::Replay(_) => 1,
+        _ => 2,
+    }
+}
+
+// A verdict as it is printed.
+#[derive(Clone, Copy)]
+struct Line<'a>(&'a Verdict);
+
+impl<'a> fmt::Display for Line<'a> {
+    ghost output = { λ l. Some (text_of_verdict l.0.now) };
+
+    fn fmt<W: fmt::Write>(&self, f: &mut fmt::Formatter<W>) -> fmt::Result {
+        match self.0 {
+            Verdict::Malformed => write!(f, "refused malformed"),
+            Verdict::BadAuth(k) => write!(f, "refused badauth {k}"),
+            Verdict::Double(i, j) => write!(f, "fault double {i} {j}"),
+            Verdict::Uncommitted => write!(f, "refused uncommitted"),
+            Verdict::Fork(i, j) => write!(f, "fault fork {i} {j}"),
+            Verdict::Replay(n) => write!(f, "fault replay {n}"),
+            Verdict::Uncovered(n) => write!(f, "refused uncovered {n}"),
+            Verdict::Unmatched(k) => write!(f, "refused unmatched {k}"),
+            Verdict::Accepted { first, last, cover } => {
+                write!(f, "accepted {first} to {last} covered {cover}")
+            }
+        }
+    }
 }
 
 impl End {
@@ -56,6 +94,7 @@ impl End {
             End::KeyMade | End::EvidenceStands => 0,
             End::RefusedNotBuilt | End::RefusedImage | End::RefusedEvidence => 2,
             End::RefusedWords | End::RefusedFile(_) => 3,
+            End::Judged(verdict) => verdict_status(verdict),
         }
     }
 }
@@ -69,6 +108,7 @@ impl fmt::Display for End {
             End::RefusedNotBuilt => write!(f, "refused notbuilt"),
             End::RefusedFile(option) => write!(f, "refused file {option}"),
             End::KeyMade => write!(f, "key made"),
+            End::Judged(verdict) => write!(f, "{}", Line(verdict)),
             End::RefusedImage => write!(f, "refused image"),
             End::EvidenceStands => write!(f, "evidence stands"),
             End::RefusedEvidence => write!(f, "refused evidence"),

@@ -12,3 +12,6 @@ mod writing;
 pub use ends::{End, FileOption};
 use fault::Fault;
 pub use top::avm;
+
+#[cfg(test)]
+mod tests;
