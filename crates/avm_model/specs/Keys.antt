@@ -1,4 +1,4 @@
--- Keys and their files: docs/FORMATS.md, "Keys and authenticators".
+-- Keys and their files: docs/FORMATS.md, "Key files".
 use Rattle.std.specs.Prelude.{◌≡◌, ℕ, Bool, ◌≤◌, ◌==◌, ◌&&◌, nat_le, List, ◌∷◌, [], ◌++◌, length, take, drop, Option, Some, None}
 use Rattle.std.specs.Int.{w32}
 use Rattle.std.specs.Str.{bytes_eq}

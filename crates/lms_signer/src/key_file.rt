@@ -17,7 +17,7 @@ pub struct KeyFile {
     pub seed: Digest,
 }
 
-/// Appends the private key file: docs/FORMATS.md, "Keys and authenticators". It needs 61 bytes of room.
+/// Appends the private key file: docs/FORMATS.md, "Key files". It needs 61 bytes of room.
 pub fn put_key(out: &mut Room, key: &KeyFile)
     requires { 61 ≤ left out.old }
     ensures value { out.new ≡ with_bytes out.old (key_bytes (key_data key.now)) }
@@ -93,7 +93,7 @@ fn spelled_key(bytes: &[u8]) -> Option<KeyFile>
     if has_types(&key) { Some(key) } else { None }
 }
 
-/// The key of a private key file: docs/FORMATS.md, "Keys and authenticators". None exactly where the bytes are no such file.
+/// The key of a private key file: docs/FORMATS.md, "Key files". None exactly where the bytes are no such file.
 pub fn read_key(bytes: &[u8]) -> Option<KeyFile>
     ensures value { option_map key_data result ≡ key_file bytes.now }
     ensures spelled { IsKeyOf (option_map key_data result) bytes.now }
