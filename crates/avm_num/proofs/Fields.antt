@@ -1,9 +1,9 @@
 -- The two laws of a reading function against its spelling, as one record; fields, and a list of items.
-use Rattle.std.proofs.Common.{◌≡◌, eqb-true, eq-eqb, ◌==◌, true, false, IsSome, append-nil, ℕ, zero, suc, ◌+◌, ◌^◌, ◌<◌, ◌≤◌, List, [], ◌∷◌, ◌++◌, length, Option, Some, None, refl, sym, ap, subst, ◌∙◌, append_assoc, arith}
+use Rattle.std.proofs.Common.{◌≡◌, eqb-true, eq-eqb, ◌==◌, true, false, IsSome, ℕ, zero, suc, ◌^◌, ◌<◌, List, [], ◌∷◌, ◌++◌, length, Option, Some, None, refl, sym, subst, ◌∙◌, append_assoc, arith}
 use Rattle.std.specs.List.{AllByRecursion}
-use Rattle.std.specs.Int.{Width, w16, w32, w64, byte_len, from_be_bytes, to_be_bytes}
+use Rattle.std.specs.Int.{Width, w16, w32, w64}
 use Rattle.std.proofs.lemmas.Nat.{be_bytes_2, from_be_bytes-to_be_bytes_2}
-use Rattle.avm_num.specs.Bytes.{IsBytes, ◌>>=◌, number_at, piece_at, byte_at, kept}
+use Rattle.avm_num.specs.Bytes.{IsBytes, ◌>>=◌, number_at, piece_at, byte_at}
 use Rattle.avm_num.proofs.Numbers.{Front, Front-then, bind_some, kept_some, IsWide, wide32, wide64, number_front, number_again, piece_front, piece_again, byte_front}
 use Rattle.avm_num.specs.Lists.{list_at, list_bytes, read_of, left_of, be, exact_at, sized_at, sized_bytes, many_at, many_bytes, one, with_front}
 
@@ -81,7 +81,7 @@ list_front {at = at} {spell = spell} {Fits = Fits} r (suc n) bytes p fits e =
     let t = list_front r n a.0.1 b.0 a.1.rest_fits b.1 in
     let g : (a.0.0 ∷ b.0.0, b.0.1) ≡ p = cc (b.2) in
     subst (λ q. Front bytes (list_bytes spell q.0) q.1 × (length q.0 ≡ suc n) × AllByRecursion Fits q.0) g
-        (Front-then bytes _ a.0.1 _ b.0.1 a.1 t.0, omega (arith, t.1), (a.2, t.2))
+    (Front-then bytes _ a.0.1 _ b.0.1 a.1 t.0, omega (arith, t.1), (a.2, t.2))
 
 list_again : {A : Type 0} {at : List ℕ → Option (A × List ℕ)} {spell : A → List ℕ} {Fits : A → Type 0} → Reads at spell Fits → (n : ℕ) (xs : List A) (rest : List ℕ) → length xs ≡ n → AllByRecursion Fits xs → list_at at n (list_bytes spell xs ++ rest) ≡ Some (xs, rest)
 unfolding list_at
@@ -90,7 +90,7 @@ list_again r zero (x ∷ xs) rest len fits = absurd (omega (arith, len))
 list_again r (suc n) [] rest len fits = absurd (omega (arith, len))
 list_again {at = at} {spell = spell} r (suc n) (x ∷ xs) rest len fits =
     rw (append_assoc (spell x) (list_bytes spell xs) rest)
-      (goes r x (list_bytes spell xs ++ rest) _ fits.0 ∙ rw (list_again r n xs rest (omega (arith, len)) fits.1) refl)
+    (goes r x (list_bytes spell xs ++ rest) _ fits.0 ∙ rw (list_again r n xs rest (omega (arith, len)) fits.1) refl)
 
 pub reads_list : {A : Type 0} {at : List ℕ → Option (A × List ℕ)} {spell : A → List ℕ} {Fits : A → Type 0} → Reads at spell Fits → (n : ℕ) → Reads (list_at at n) (list_bytes spell) (AreItems Fits n)
 reads_list r n = record {
@@ -101,20 +101,20 @@ reads_list r n = record {
 pub reads_exact : {at : List ℕ → Option (ℕ × List ℕ)} {spell : ℕ → List ℕ} {Fits : ℕ → Type 0} → Reads at spell Fits → (n : ℕ) → Fits n → Reads (exact_at at n) (λ u. spell n) (λ u. Unit {0})
 reads_exact {spell = spell} r n ok = record {
   front = λ bytes p fits e.
-    let a = next r bytes [] bytes (start bytes fits) _ p e in
-    let k = kept_some (a.0.0 == n) (tt, a.0.1) p a.3 in
-    let front = subst (λ (m : ℕ). Front bytes (spell m) a.0.1) (eqb-true a.0.0 n k.0) a.1 in
-    (subst (λ (q : Unit {0} × List ℕ). Front bytes (spell n) q.1) k.1 front, tt);
+      let a = next r bytes [] bytes (start bytes fits) _ p e in
+      let k = kept_some (a.0.0 == n) (tt, a.0.1) p a.3 in
+      let front = subst (λ (m : ℕ). Front bytes (spell m) a.0.1) (eqb-true a.0.0 n k.0) a.1 in
+      (subst (λ (q : Unit {0} × List ℕ). Front bytes (spell n) q.1) k.1 front, tt);
   again = λ u rest fits. goes r n rest _ ok ∙ rw (eq-eqb n n refl) refl;
 }
 
 pub reads_sized : {at : List ℕ → Option (ℕ × List ℕ)} {spell : ℕ → List ℕ} {Fits : ℕ → Type 0} → Reads at spell Fits → Reads (sized_at at) (sized_bytes spell) (λ x. Fits (length x))
 reads_sized {spell = spell} {Fits = Fits} r = record {
   front = λ bytes p fits e.
-    let a = next r bytes [] bytes (start bytes fits) _ p e in
-    let f = (reads_piece a.0.0).front a.0.1 p a.1.rest_fits a.3 in
-    let b = Front-then bytes _ a.0.1 _ p.1 a.1 f.0 in
-    (subst (λ (m : ℕ). Front bytes (spell m ++ p.0) p.1) (sym f.1) b, subst Fits (sym f.1) a.2);
+      let a = next r bytes [] bytes (start bytes fits) _ p e in
+      let f = (reads_piece a.0.0).front a.0.1 p a.1.rest_fits a.3 in
+      let b = Front-then bytes _ a.0.1 _ p.1 a.1 f.0 in
+      (subst (λ (m : ℕ). Front bytes (spell m ++ p.0) p.1) (sym f.1) b, subst Fits (sym f.1) a.2);
   again = λ x rest fits. rw (append_assoc (spell (length x)) x rest) (goes r (length x) (x ++ rest) _ fits ∙ (reads_piece (length x)).again x rest refl);
 }
 
@@ -124,10 +124,10 @@ AreMany Count Fits xs = Count (length xs) × AllByRecursion Fits xs
 pub reads_many : {A : Type 0} {at : List ℕ → Option (ℕ × List ℕ)} {spell : ℕ → List ℕ} {Count : ℕ → Type 0} {item : List ℕ → Option (A × List ℕ)} {text : A → List ℕ} {Fits : A → Type 0} → Reads at spell Count → Reads item text Fits → Reads (many_at at item) (many_bytes spell text) (AreMany Count Fits)
 reads_many {spell = spell} {Count = Count} {text = text} r i = record {
   front = λ bytes p fits e.
-    let a = next r bytes [] bytes (start bytes fits) _ p e in
-    let f = (reads_list i a.0.0).front a.0.1 p a.1.rest_fits a.3 in
-    let b = Front-then bytes _ a.0.1 _ p.1 a.1 f.0 in
-    (subst (λ (m : ℕ). Front bytes (spell m ++ list_bytes text p.0) p.1) (sym f.1.0) b, (subst Count (sym f.1.0) a.2, f.1.1));
+      let a = next r bytes [] bytes (start bytes fits) _ p e in
+      let f = (reads_list i a.0.0).front a.0.1 p a.1.rest_fits a.3 in
+      let b = Front-then bytes _ a.0.1 _ p.1 a.1 f.0 in
+      (subst (λ (m : ℕ). Front bytes (spell m ++ list_bytes text p.0) p.1) (sym f.1.0) b, (subst Count (sym f.1.0) a.2, f.1.1));
   again = λ xs rest fits. rw (append_assoc (spell (length xs)) (list_bytes text xs) rest) (goes r (length xs) (list_bytes text xs ++ rest) _ fits.0 ∙ (reads_list i (length xs)).again xs rest (refl, fits.1));
 }
 
@@ -140,6 +140,7 @@ left_suc {A = A} at n bytes = go (at bytes)
     tail : (x : A) (r : Option (List A × List ℕ)) → left_of (r >>= λ xs. Some (x ∷ xs.0, xs.1)) ≡ left_of r
     tail x None = refl
     tail x (Some p) = refl
+
     go : (r : Option (A × List ℕ)) → left_of (r >>= λ x. list_at at n x.1 >>= λ xs. Some (x.0 ∷ xs.0, xs.1)) ≡ (r >>= λ x. left_of (list_at at n x.1))
     go None = refl
     go (Some x) = tail x.0 (list_at at n x.1)

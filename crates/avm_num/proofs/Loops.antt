@@ -1,5 +1,5 @@
 -- A loop that passes over items, and an iterator over them.
-use Rattle.std.proofs.Common.{◌≡◌, ℕ, zero, suc, ◌+◌, ◌-◌, ◌<◌, true, false, List, [], ◌∷◌, ◌++◌, Option, Some, None, IsSome, MatchOption, refl, sym, ap, ◌∙◌, length, append-nil, arith, take, slice_set}
+use Rattle.std.proofs.Common.{◌≡◌, ℕ, zero, suc, ◌+◌, ◌-◌, ◌<◌, List, [], ◌∷◌, ◌++◌, Option, Some, None, IsSome, MatchOption, refl, sym, ap, ◌∙◌, length, append-nil, arith, take, slice_set}
 use Rattle.std.proofs.lemmas.List.{take_more_set, take_all}
 use Rattle.std.specs.Iterator.{MakesProgress, YieldsFirstBy, item_count}
 use Rattle.avm_num.specs.Bytes.{Takes}

@@ -1,10 +1,9 @@
 -- Items one after another are read as they are spelled.
-use Rattle.std.proofs.Common.{◌≡◌, ℕ, zero, suc, ◌+◌, ◌<◌, ◌≤◌, Bool, true, false, List, [], ◌∷◌, ◌++◌, length, Option, Some, None, refl, sym, ap, subst, ◌∙◌, append_assoc, append-nil, arith, All}
+use Rattle.std.proofs.Common.{◌≡◌, ℕ, zero, suc, ◌<◌, ◌≤◌, true, List, [], ◌∷◌, ◌++◌, length, Option, Some, None, refl, sym, ap, subst, ◌∙◌, append_assoc, append-nil, arith, All}
 use Rattle.std.specs.List.{AllByRecursion}
-use Rattle.std.proofs.lemmas.List.{length-append}
 use Rattle.std.proofs.lemmas.List.Elements.{All-from_recursion, recursion_from_All}
 use Rattle.avm_num.specs.Bytes.{IsBytes, kept}
-use Rattle.avm_num.proofs.Numbers.{Front, kept_some}
+use Rattle.avm_num.proofs.Numbers.{kept_some}
 use Rattle.avm_num.specs.Walk.{Reader, walked, walk, items_of, behind_of, is_nil, all_at}
 use Rattle.avm_num.specs.Lists.{list_bytes}
 use Rattle.avm_num.proofs.Fields.{Reads}

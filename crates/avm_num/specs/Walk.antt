@@ -1,5 +1,5 @@
 -- Items that stand one after another.
-use Rattle.std.specs.Prelude.{◌≡◌, ℕ, zero, suc, Bool, true, false, List, [], ◌∷◌, ◌++◌, length, Option, Some, None, ◌<◌}
+use Rattle.std.specs.Prelude.{ℕ, zero, suc, Bool, true, false, List, [], ◌∷◌, length, Option, Some, None}
 use Rattle.avm_num.specs.Bytes.{kept}
 
 -- a reader of one item: the item and the bytes behind it, or none

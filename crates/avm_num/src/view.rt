@@ -21,8 +21,7 @@ impl<'a> Model for View<'a> {
 // What the type of a slice of bytes says.
 pub fn are_bytes(bytes: &[u8])
     ensures { IsBytes bytes.now }
-{
-}
+{}
 
 impl<'a> View<'a> {
     pub fn new(bytes: &'a [u8]) -> View<'a>
