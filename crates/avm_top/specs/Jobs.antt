@@ -1,7 +1,7 @@
 -- How a job ends, and what it leaves, by the files that it finds.
 use Rattle.std.specs.Prelude.{◌≡◌, ◌≢◌, ℕ, List, [], ◌∷◌, Option, None, Some}
 use Rattle.avm_model.specs.Job.{JobData, keygen}
-use Rattle.avm_top.specs.Writing.{FileMap}
+use Rattle.avm_top.specs.FileMap.{FileMap}
 use Rattle.avm_top.specs.Keygen.{KeysMade, KeysCut, key_of_words}
 use Rattle.avm_top.specs.declared.ends.End.{End}
 use Rattle.avm_top.specs.declared.ends.End.TheVariants.{RefusedWords, RefusedNotBuilt}

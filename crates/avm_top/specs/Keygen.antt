@@ -4,7 +4,8 @@ use Rattle.avm_model.specs.Keys.{KeyData, key_bytes, public_of}
 use Rattle.avm_model.specs.Job.{JobData, keygen}
 use Rattle.avm_top.specs.declared.ends.End.{End}
 use Rattle.avm_top.specs.declared.ends.End.TheVariants.{KeyMade}
-use Rattle.avm_top.specs.Writing.{FileMap, holding, IsBegun}
+use Rattle.evid_file.specs.Pieces.{Written, LeavesFront}
+use Rattle.avm_top.specs.FileMap.{FileMap}
 
 -- the LMS type of a height: 5, 10 or 15 (RFC 8554, section 5.1)
 abbrev pub lms_of_height : ℕ → ℕ
@@ -20,13 +21,13 @@ key_of_words height w id seed = record { lms = lms_of_height height; ots = ots_o
 -- the private and the public key file are written
 abbrev pub KeysMade : KeyData → List ℕ → List ℕ → FileMap → FileMap → End → Type 0
 KeysMade k key public old new end =
-    (end ≡ KeyMade) × (new key ≡ holding (key_bytes k) (old key)) × (new public ≡ holding (public_of k) (old public))
+    (end ≡ KeyMade) × Written (key_bytes k) (old key) (new key) × Written (public_of k) (old public) (new public)
 
 -- a call failed: the private file is cut and the public one as it was, or the private one is whole and the public one cut
 abbrev pub KeysCut : KeyData → List ℕ → List ℕ → FileMap → FileMap → Type 0
 KeysCut k key public old new =
-    (IsBegun (key_bytes k) (old key) (new key) × (new public ≡ old public))
-    ⊎ ((new key ≡ holding (key_bytes k) (old key)) × IsBegun (public_of k) (old public) (new public))
+    (LeavesFront (key_bytes k) (old key) (new key) × (new public ≡ old public))
+    ⊎ (Written (key_bytes k) (old key) (new key) × LeavesFront (public_of k) (old public) (new public))
 
 -- a key's two files have different names
 abbrev pub NamesApart : JobData → Type 0

@@ -1,7 +1,9 @@
 pub mod Reading
-pub mod Writing
+pub mod FileMap
 pub mod Ends
 pub mod Printing
 pub mod Keygen
+pub mod Audit
+pub mod Check
 pub mod Jobs
 pub mod Outcomes

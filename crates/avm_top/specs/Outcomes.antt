@@ -4,7 +4,7 @@ use Rattle.avm_model.specs.Job.{JobData}
 use Rattle.avm_outside.specs.Outside.{Rises}
 use Rattle.avm_top.specs.declared.ends.End.{End}
 use Rattle.avm_top.specs.Ends.{status_of, text_of}
-use Rattle.avm_top.specs.Writing.{FileMap}
+use Rattle.avm_top.specs.FileMap.{FileMap}
 use Rattle.avm_top.specs.Jobs.{EndsAs, LeavesAs}
 
 pub data Outcome : Type 0 where
