@@ -6,7 +6,9 @@ mod machine;
 mod messages;
 mod parts;
 mod peers;
+mod draft;
 mod put;
+mod queues;
 mod words;
 
 pub use parts::read_head;

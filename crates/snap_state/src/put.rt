@@ -3,14 +3,14 @@ ghost use Rattle.avm_model.specs.Device.{MessageState};
 ghost use Rattle.avm_num.specs.Room.{with_bytes, left};
 ghost use Rattle.std.specs.Int.{w16, w32};
 ghost use Rattle.avm_num.specs.Lists.{list_bytes, many_bytes, sized_bytes, be, one};
-ghost use Rattle.avm_model.specs.Head.{FrontData, TransmitData, message_bytes, peer_bytes, front_bytes, transmit_bytes};
+ghost use Rattle.avm_model.specs.Head.{status_code, hart_bytes, FrontData, TransmitData, message_bytes, peer_bytes, front_bytes, transmit_bytes};
 
-use avm_model::Peer;
-use avm_num::Room;
+use crate::draft::Draft;
+use avm_model::{Peer, Status};
 
 /// Writes a row.
 #[tactic(auto, using(avm_num::proofs::Writes::written))]
-fn put_peer(out: &mut Room, peer: &Peer)
+fn put_peer(out: &mut Draft, peer: &Peer)
     requires { 81 ≤ left out.old }
     ensures value { out.new ≡ with_bytes out.old (peer_bytes peer.now) }
     ensures left { left out.new + 81 ≡ left out.old }
@@ -24,7 +24,7 @@ fn put_peer(out: &mut Room, peer: &Peer)
 
 #[tactic(auto, using(avm_num::proofs::Writes::written))]
 /// Writes rows, one after another.
-fn put_rows(out: &mut Room, peers: &[Peer])
+fn put_rows(out: &mut Draft, peers: &[Peer])
     requires { 81 * length peers.now ≤ left out.old }
     ensures left { left out.new + 81 * length peers.now ≡ left out.old }
     ensures value { out.new ≡ with_bytes out.old (list_bytes peer_bytes peers.now) }
@@ -36,7 +36,7 @@ fn put_rows(out: &mut Room, peers: &[Peer])
 
 #[tactic(auto, using(avm_num::proofs::Writes::written))]
 /// Writes words, one after another.
-fn put_words(out: &mut Room, words: &[u32])
+fn put_words(out: &mut Draft, words: &[u32])
     requires { 4 * length words.now ≤ left out.old }
     ensures left { left out.new + 4 * length words.now ≡ left out.old }
     ensures value { out.new ≡ with_bytes out.old (list_bytes (be w32) words.now) }
@@ -48,7 +48,7 @@ fn put_words(out: &mut Room, words: &[u32])
 
 /// Writes who the machine is, and whom it knows.
 #[tactic(auto, unfolding(avm_model::specs::Head::front_bytes), using(avm_num::proofs::Writes::written))]
-fn put_front(out: &mut Room, own: u8, snap: u32, pages: u32, peers: &[Peer])
+pub fn put_front(out: &mut Draft, own: u8, snap: u32, pages: u32, peers: &[Peer])
     requires few { length peers.now < 16 }
     requires room { 11 + 81 * length peers.now ≤ left out.old }
     ensures value { out.new ≡ with_bytes out.old (front_bytes (record { own = own; snap = snap; pages = pages; peers = peers.now })) }
@@ -62,31 +62,47 @@ fn put_front(out: &mut Room, own: u8, snap: u32, pages: u32, peers: &[Peer])
     put_rows(out, peers);
 }
 
-#[tactic(auto, unfolding(avm_num::specs::Lists::be))]
-fn put_u16(out: &mut Room, value: u16)
-    requires { 2 ≤ left out.old }
-    ensures value { out.new ≡ with_bytes out.old (be w16 value) }
-    ensures left { left out.new + 2 ≡ left out.old }
-{
-    out.put(&value.to_be_bytes());
-}
-
 /// Writes a message.
 #[tactic(auto, using(avm_num::proofs::Writes::written))]
-fn put_message(out: &mut Room, peer: u8, payload: &[u8])
+pub fn put_message(out: &mut Draft, peer: u8, payload: &[u8])
     requires short { length payload.now ≤ 1024 }
     requires room { 3 + length payload.now ≤ left out.old }
     ensures value { out.new ≡ with_bytes out.old (message_bytes (record { peer = peer; payload = payload.now })) }
     ensures left { left out.new + 3 + length payload.now ≡ left out.old }
 {
     out.put_u8(peer);
-    put_u16(out, payload.len() as u16);
+    out.put_u16(payload.len() as u16);
     out.put(payload);
+}
+
+/// The number of a status in a head.
+fn status_number(status: Status) -> u8
+    ensures { result ≡ status_code status }
+{
+    match status {
+        Status::Running => 0,
+        Status::Waiting => 1,
+        Status::Halted => 2,
+    }
+}
+
+/// Writes registers 1 to 31, and where the machine stands.
+#[tactic(auto, unfolding(avm_model::specs::Head::hart_bytes), using(avm_num::proofs::Writes::written))]
+pub fn put_hart(out: &mut Draft, x: &[u32], pc: u32, count: u64, status: Status)
+    requires registers { length x.now ≡ 31 }
+    requires room { 137 ≤ left out.old }
+    ensures value { out.new ≡ with_bytes out.old (hart_bytes (record { x = x.now; pc = pc; count = count; status = status })) }
+    ensures left { left out.new + 137 ≡ left out.old }
+{
+    put_words(out, x);
+    out.put_u32(pc);
+    out.put_u64(count);
+    out.put_u8(status_number(status));
 }
 
 /// Writes the transmit registers and the window.
 #[tactic(auto, unfolding(avm_model::specs::Head::transmit_bytes), using(avm_num::proofs::Writes::written))]
-fn put_transmit(out: &mut Room, peer: u32, len: u32, outcome: u32, window: &[u8; 1024])
+pub fn put_transmit(out: &mut Draft, peer: u32, len: u32, outcome: u32, window: &[u8; 1024])
     requires { 1036 ≤ left out.old }
     ensures value { out.new ≡ with_bytes out.old (transmit_bytes (record { peer = peer; len = len; result = outcome; window = window.now })) }
     ensures left { left out.new + 1036 ≡ left out.old }

@@ -1,0 +1,25 @@
+use Rattle.std.proofs.Common.{arith, ◌∙◌, ◌+◌, ap, drop}
+use Rattle.avm_num.specs.Room.{Buffer, with_bytes}
+use Rattle.avm_num.specs.Lists.{list_bytes}
+use Rattle.avm_model.specs.Head.{message_bytes}
+use Rattle.snap_state.proofs.Puts.{message_put, size_from, short_at}
+use Rattle.snap_state.proofs.queues.put_messages.Goals as goal
+
+pub put_message-requires-clause-short : goal.put_message-requires-clause-short
+put_message-requires-clause-short c = short_at _ _ _ _ c.bounds.ensures.peered.known c.message_at-peer.ensures
+
+pub put_message-requires-clause-room : goal.put_message-requires-clause-room
+put_message-requires-clause-room c =
+    let s = size_from _ _ _ c.message_at-peer.ensures in
+    let l = c.loop-i.invariant.left in
+    omega (arith, s, l)
+
+pub loop-i-preserved : goal.loop-i-preserved
+loop-i-preserved c =
+    let i = c.loop-i.invariant in
+    let v = c.put_message.ensures.value in
+    let l = c.put_message.ensures.left in
+    let s = size_from _ _ _ c.message_at-peer.ensures in
+    record {
+      value = ap (λ (b : Buffer). with_bytes b (list_bytes message_bytes (drop (c.loop-i.i + 1) c.args.devices.now.messages))) v ∙ message_put c.loop-i.out c.args.devices.now.messages c.loop-i.i _ c.message_at-peer.ensures ∙ i.value;
+      left = omega (arith, l, s) }
