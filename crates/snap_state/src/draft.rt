@@ -27,8 +27,10 @@ impl Model for Draft {
 }
 
 impl Draft {
+    #[tactic(auto, unfolding(avm_num::specs::Room::left))]
     pub fn new() -> Draft
-        ensures { result ≡ record { bytes = []; capacity = 11774 } }
+        ensures value { result ≡ record { bytes = []; capacity = 11774 } }
+        ensures room { left result ≡ 11774 }
     {
         Draft {
             store: [0; MOST],

@@ -10,8 +10,11 @@ mod draft;
 mod put;
 mod queues;
 mod words;
+mod writing;
 
+pub use machine::machine_of;
 pub use parts::read_head;
+pub use writing::{put_head, state_root};
 
 #[cfg(test)]
 mod tests;

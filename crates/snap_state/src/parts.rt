@@ -1,4 +1,4 @@
-ghost use Rattle.std.specs.Prelude.{◌≡◌, is_some, IsTrue, true};
+ghost use Rattle.std.specs.Prelude.{◌≡◌, is_some, length, IsTrue, true};
 ghost use Rattle.std.specs.Option.{option_map};
 ghost use Rattle.std.specs.Int.{w16};
 ghost use Rattle.avm_num.specs.Bytes.{Takes, byte_at, number_at};
@@ -44,7 +44,7 @@ pub struct TransmitParts<'a> {
     pub peer: u32,
     pub len: u32,
     pub result: u32,
-    pub window: &'a [u8],
+    pub window: &'a [u8; 1024],
 }
 
 /// A head where it lies in memory.
@@ -149,6 +149,17 @@ fn take_queues<'a>(view: &mut View<'a>) -> Option<QueuesParts<'a>>
     })
 }
 
+/// The bytes as a window.
+fn as_window(bytes: &[u8]) -> &[u8; 1024]
+    requires { length bytes.now ≡ 1024 }
+    ensures { result.now ≡ bytes.now }
+{
+    match bytes.try_into() {
+        Ok(window) => window,
+        Err(_) => unreachable!(),
+    }
+}
+
 #[tactic(auto, unfolding(avm_model::specs::HeadReading::transmit_at))]
 fn take_transmit<'a>(view: &mut View<'a>) -> Option<TransmitParts<'a>>
     ensures { Takes transmit_view result view.old view.new (transmit_at view.old) }
@@ -157,7 +168,7 @@ fn take_transmit<'a>(view: &mut View<'a>) -> Option<TransmitParts<'a>>
     let peer = rest.take_u32()?;
     let len = rest.take_u32()?;
     let result = rest.take_u32()?;
-    let window = rest.take(1024)?;
+    let window = as_window(rest.take(1024)?);
     *view = rest;
     Some(TransmitParts {
         peer,

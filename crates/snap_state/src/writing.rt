@@ -1,0 +1,123 @@
+ghost use Rattle.std.specs.Prelude.{◌≡◌, ◌+◌, ◌*◌, ◌≤◌, None, drop, length};
+ghost use Rattle.avm_num.specs.Room.{with_bytes, left};
+ghost use Rattle.avm_model.specs.Head.{front_bytes, hart_bytes, transmit_bytes, head_bytes};
+ghost use Rattle.avm_model.specs.HeadState.{data_of};
+ghost use Rattle.avm_model.specs.Pages.{sha_hashes, root_of};
+ghost use Rattle.avm_model.specs.Root.{root, root_over};
+ghost use Rattle.snap_state.specs.Sizes.{head_size};
+
+use crate::draft::Draft;
+use crate::put::{put_front, put_hart, put_transmit};
+use crate::queues::put_queues;
+use avm_hash::{Digest, Hasher};
+use avm_num::Room;
+use guest_dev::Devices;
+use guest_machine::{Machine, Status};
+use rv32_core::Hart;
+
+/// Writes who a machine is, and whom it knows.
+#[tactic(auto, using(avm_model::proofs::PageDepth::pages_are, crate::proofs::HeadBounds::rows_few))]
+fn put_who(out: &mut Draft, machine: &Machine)
+    requires room { 11 + 81 * length machine.now.state.devices.peers ≤ left out.old }
+    ensures value { out.new ≡ with_bytes out.old (front_bytes (data_of machine.now.state).front) }
+    ensures left { left out.new + 11 + 81 * length machine.now.state.devices.peers ≡ left out.old }
+{
+    machine.bounds();
+    let devices = machine.devices();
+    put_front(out, devices.own(), machine.snap(), machine.ram().pages(), devices.peers());
+}
+
+/// All registers but the first.
+fn behind_first(x: &[u32]) -> &[u32]
+    requires { length x.now ≡ 32 }
+    ensures value { result.now ≡ drop 1 x.now }
+    ensures len { length result.now ≡ 31 }
+{
+    match x {
+        [_, rest @ ..] => rest,
+        [] => x,
+    }
+}
+
+/// Writes registers 1 to 31 and pc of a hart, and where it stands.
+fn put_registers(out: &mut Draft, hart: &Hart, count: u64, status: Status)
+    requires room { 137 ≤ left out.old }
+    ensures value { out.new ≡ with_bytes out.old (hart_bytes (record { x = drop 1 hart.now.x; pc = hart.now.pc; count = count; status = status })) }
+    ensures left { left out.new + 137 ≡ left out.old }
+{
+    put_hart(out, behind_first(&hart.x), hart.pc, count, status);
+}
+
+/// Writes a machine's registers, and where it stands.
+fn put_where(out: &mut Draft, machine: &Machine)
+    requires room { 137 ≤ left out.old }
+    ensures value { out.new ≡ with_bytes out.old (hart_bytes (data_of machine.now.state).hart) }
+    ensures left { left out.new + 137 ≡ left out.old }
+{
+    put_registers(out, machine.hart(), machine.count(), machine.status());
+}
+
+/// Writes the transmit registers and the window of the devices.
+fn put_sending(out: &mut Draft, devices: &Devices)
+    requires room { 1036 ≤ left out.old }
+    ensures value { out.new ≡ with_bytes out.old (transmit_bytes (record { peer = devices.now.tx_peer; len = devices.now.tx_len; result = devices.now.tx_result; window = devices.now.window })) }
+    ensures left { left out.new + 1036 ≡ left out.old }
+{
+    let regs = devices.regs();
+    put_transmit(out, regs.peer, regs.len, regs.result, devices.window());
+}
+
+/// Writes the four parts of a head.
+#[tactic(auto, unfolding(avm_model::specs::Head::head_bytes), using(avm_num::proofs::Writes::written))]
+fn put_parts(out: &mut Draft, machine: &Machine)
+    requires room { head_size (data_of machine.now.state) ≤ left out.old }
+    ensures { out.new ≡ with_bytes out.old (head_bytes (data_of machine.now.state)) }
+{
+    put_who(out, machine);
+    put_where(out, machine);
+    put_queues(out, machine.devices());
+    put_sending(out, machine.devices());
+}
+
+/// The head of a machine, on the stack.
+fn draft_of(machine: &Machine) -> Draft
+    ensures { result.bytes ≡ head_bytes (data_of machine.now.state) }
+{
+    machine.bounds();
+    let mut out = Draft::new();
+    put_parts(&mut out, machine);
+    out
+}
+
+/// Writes the head of a machine, which has at most 11,774 bytes.
+pub fn put_head(out: &mut Room, machine: &Machine)
+    requires clock { machine.now.state.devices.clock ≡ None }
+    requires room { length (head_bytes (data_of machine.now.state)) ≤ left out.old }
+    ensures value { out.new ≡ with_bytes out.old (head_bytes (data_of machine.now.state)) }
+    ensures left { left out.new + length (head_bytes (data_of machine.now.state)) ≡ left out.old }
+{
+    let draft = draft_of(machine);
+    out.put(draft.bytes());
+}
+
+/// The root of a machine's state: the hash over its head and the root of its pages.
+#[tactic(auto, unfolding(avm_model::specs::Root::root_over))]
+fn root_with(machine: &Machine, pages: &Digest) -> Digest
+    ensures { result.0 ≡ root_over (head_bytes (data_of machine.now.state)) pages.now.0 }
+{
+    let draft = draft_of(machine);
+    let mut hasher = Hasher::new();
+    hasher.update(&[2]);
+    hasher.update(draft.bytes());
+    hasher.update(&pages.0);
+    hasher.finish()
+}
+
+/// The root of a machine's state, where `pages` is the root of its pages: the hash over the head and that root.
+#[tactic(auto, unfolding(avm_model::specs::Root::root, avm_model::specs::Pages::page_root))]
+pub fn state_root(machine: &Machine, pages: &Digest) -> Digest
+    ensures value { result.0 ≡ root_over (head_bytes (data_of machine.now.state)) pages.now.0 }
+    ensures root { pages.now ≡ root_of sha_hashes machine.now.state.ram → result.0 ≡ root machine.now.state }
+{
+    root_with(machine, pages)
+}
