@@ -1,3 +1,5 @@
+//! A buffer that is filled from its front on.
+
 ghost use Rattle.std.specs.Prelude.{◌≡◌, ◌≤◌, ◌+◌, ◌∷◌, [], length, IfOk};
 ghost use Rattle.std.specs.Int.{w32, w64};
 ghost use Rattle.avm_num.specs.Lists.{be, one};
@@ -29,6 +31,7 @@ impl Model for Room {
 }
 
 impl Room {
+    /// An empty buffer for `capacity` bytes. It alone takes memory.
     pub fn new(alloc: Global, capacity: usize) -> Result<Room, NoMemory>
         ensures { IfOk result (λ r. r ≡ record { bytes = []; capacity = capacity }) }
     {
@@ -38,18 +41,21 @@ impl Room {
         }
     }
 
+    /// What was put, in order.
     pub fn bytes(&self) -> &[u8]
         ensures { result.now ≡ self.now.bytes }
     {
         &self.store[..self.len]
     }
 
+    /// Makes the buffer empty. Its capacity stays.
     pub fn clear(&mut self)
         ensures { self.new ≡ record self.old { bytes = [] } }
     {
         self.len = 0;
     }
 
+    /// Appends the bytes, which have to fit.
     #[tactic(auto, unfolding(crate::specs::Room::left))]
     pub fn put(&mut self, bytes: &[u8])
         requires { length bytes.now ≤ left self.old }
@@ -61,6 +67,7 @@ impl Room {
         self.len = end;
     }
 
+    /// Appends one byte, which has to fit.
     #[tactic(auto, unfolding(crate::specs::Lists::one))]
     pub fn put_u8(&mut self, value: u8)
         requires { 1 ≤ left self.old }
@@ -70,6 +77,7 @@ impl Room {
         self.put(&[value]);
     }
 
+    /// Appends a number as four bytes, big-endian, which have to fit.
     #[tactic(auto, unfolding(crate::specs::Lists::be))]
     pub fn put_u32(&mut self, value: u32)
         requires { 4 ≤ left self.old }
@@ -79,6 +87,7 @@ impl Room {
         self.put(&value.to_be_bytes());
     }
 
+    /// Appends a number as eight bytes, big-endian, which have to fit.
     #[tactic(auto, unfolding(crate::specs::Lists::be))]
     pub fn put_u64(&mut self, value: u64)
         requires { 8 ≤ left self.old }

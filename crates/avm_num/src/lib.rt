@@ -7,3 +7,6 @@ mod view;
 
 pub use buffer::{NoMemory, Room};
 pub use view::{View, are_bytes};
+
+#[cfg(test)]
+mod tests;

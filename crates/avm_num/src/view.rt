@@ -1,3 +1,5 @@
+//! A cursor over bytes.
+
 ghost use Rattle.std.specs.Prelude.{◌≡◌, IfSome, length};
 ghost use Rattle.std.specs.Int.{w32, w64};
 ghost use Rattle.avm_num.specs.Bytes.{IsBytes, Takes, number_at, piece_at, byte_at};
@@ -18,18 +20,20 @@ impl<'a> Model for View<'a> {
     ghost view = { λ v. v.bytes.now };
 }
 
-// What the type of a slice of bytes says.
+/// Does nothing. Its clause says what the type of a slice of bytes says: each item is below 256.
 pub fn are_bytes(bytes: &[u8])
     ensures { IsBytes bytes.now }
 {}
 
 impl<'a> View<'a> {
+    /// A cursor at the front of the bytes.
     pub fn new(bytes: &'a [u8]) -> View<'a>
         ensures { result ≡ bytes.now }
     {
         View { bytes }
     }
 
+    /// The bytes that remain. The cursor stays.
     pub fn rest(&self) -> &'a [u8]
         ensures value { result.now ≡ self.now }
         ensures fits { IsBytes self.now }
@@ -38,6 +42,7 @@ impl<'a> View<'a> {
         self.bytes
     }
 
+    /// The next byte. None exactly where none remains.
     pub fn take_u8(&mut self) -> Option<u8>
         ensures { Takes (λ n. n) result self.old self.new (byte_at self.old) }
     {
@@ -50,6 +55,7 @@ impl<'a> View<'a> {
         }
     }
 
+    /// The next four bytes as a big-endian number. None exactly where fewer remain, and then the cursor stays.
     pub fn take_u32(&mut self) -> Option<u32>
         ensures { Takes (λ n. n) result self.old self.new (number_at w32 self.old) }
     {
@@ -61,6 +67,7 @@ impl<'a> View<'a> {
         Some(u32::from_be_bytes([front[0], front[1], front[2], front[3]]))
     }
 
+    /// The next eight bytes as a big-endian number. None exactly where fewer remain, and then the cursor stays.
     pub fn take_u64(&mut self) -> Option<u64>
         ensures { Takes (λ n. n) result self.old self.new (number_at w64 self.old) }
     {
@@ -74,6 +81,7 @@ impl<'a> View<'a> {
         ]))
     }
 
+    /// The next `n` bytes. None exactly where fewer remain, and then the cursor stays.
     pub fn take(&mut self, n: usize) -> Option<&'a [u8]>
         ensures value { Takes (λ p. p.now) result self.old self.new (piece_at n self.old) }
         ensures len { IfSome result (λ p. length p.now ≡ n) }
