@@ -47,3 +47,6 @@ impl Hasher {
         Digest(self.inner.finalize())
     }
 }
+
+#[cfg(test)]
+mod tests;

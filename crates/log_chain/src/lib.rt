@@ -32,3 +32,6 @@ pub fn chain(h: &Digest, frames: Frames<'_>) -> Digest
     }
     top
 }
+
+#[cfg(test)]
+mod tests;

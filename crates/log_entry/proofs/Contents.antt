@@ -160,3 +160,8 @@ none None kind bytes e = λ c fits k is.
     let again = content_again c fits in
     let same : content_at (kind_of c) (content_bytes c) ≡ content_at kind bytes = rw (k, is) refl in
     cc
+
+pub only : (r : Option Content) (kind : ℕ) (bytes : List ℕ) → option_map content_view r ≡ content_at kind bytes → (c : ContentData) → FitsContent c → kind_of c ≡ kind → content_bytes c ≡ bytes → option_map content_view r ≡ Some c
+only r kind bytes e c fits k is =
+    let same : content_at (kind_of c) (content_bytes c) ≡ content_at kind bytes = rw (k, is) refl in
+    e ∙ sym same ∙ content_again c fits

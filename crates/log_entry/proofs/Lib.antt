@@ -3,3 +3,4 @@ pub mod Wholes
 pub mod PacketLaws
 pub mod Contents
 pub mod FrameLaws
+pub mod Lengths

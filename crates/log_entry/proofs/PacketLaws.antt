@@ -1,5 +1,5 @@
 -- Packets and the contents in them are read as they are spelled.
-use Rattle.std.proofs.Common.{◌≡◌, ℕ, ◌^◌, ◌<◌, true, ◌&&◌, nat_le, is_some, List, [], ◌++◌, length, Option, Some, refl, sym, ap, subst, ◌∙◌, append_assoc, append-nil, leb-true, le-leb}
+use Rattle.std.proofs.Common.{Bool, ◌≡◌, ℕ, ◌^◌, ◌<◌, true, ◌&&◌, nat_le, is_some, List, [], ◌++◌, length, Option, Some, refl, sym, ap, subst, ◌∙◌, append_assoc, append-nil, leb-true, le-leb, MatchBool, false}
 use Rattle.std.specs.Int.{w32, w64}
 use Rattle.avm_num.specs.Bytes.{IsBytes, ◌>>=◌, kept}
 use Rattle.avm_num.specs.Lists.{be, one, sized_bytes}
@@ -164,3 +164,11 @@ is_ack_is bytes fits some =
 
 pub ack_is_some : (bytes : List ℕ) → IsAck bytes → is_some (ack_at bytes) ≡ true
 ack_is_some bytes is = let read : ack_at bytes ≡ Some is.0 = ap ack_at is.2 ∙ whole_ack.again is.0 is.1 in rw read refl
+
+pub data_decides : (b : Bool) (bytes : List ℕ) → IsBytes bytes → b ≡ is_some (data_at bytes) → MatchBool b (IsData bytes) (IsData bytes → ⊥)
+data_decides true bytes fits e = is_data_is bytes fits (sym e)
+data_decides false bytes fits e = λ is. let some = data_is_some bytes is in let h : false ≡ true = e ∙ some in cc
+
+pub ack_decides : (b : Bool) (bytes : List ℕ) → IsBytes bytes → b ≡ is_some (ack_at bytes) → MatchBool b (IsAck bytes) (IsAck bytes → ⊥)
+ack_decides true bytes fits e = is_ack_is bytes fits (sym e)
+ack_decides false bytes fits e = λ is. let some = ack_is_some bytes is in let h : false ≡ true = e ∙ some in cc

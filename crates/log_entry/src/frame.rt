@@ -1,6 +1,7 @@
-ghost use Rattle.std.specs.Prelude.{◌≡◌, ◌++◌, ℕ, List, IfSome, IfNone};
+ghost use Rattle.std.specs.Prelude.{◌≡◌, ◌≤◌, ◌++◌, ℕ, List, length, IfSome, IfNone};
 ghost use Rattle.avm_num.specs.Bytes.{Takes};
 ghost use Rattle.avm_model.specs.Frame.{FrameData, FitsFrame, frame_at, frame_bytes};
+ghost use Rattle.log_entry.specs.Limits.{longest_content};
 ghost use Rattle.log_entry.specs.Views.{frame_view};
 
 use crate::parts::take_ordinal;
@@ -36,6 +37,7 @@ pub fn read_frame<'a>(view: &mut View<'a>) -> Option<Frame<'a>>
     ensures found { IfSome result (λ f. FitsFrame (frame_view f) × (view.old ≡ frame_bytes (frame_view f) ++ view.new)) }
     ensures none { IfNone result ((f : FrameData) (rest : List ℕ) → FitsFrame f → view.old ≡ frame_bytes f ++ rest → ⊥) }
     ensures left { IfNone result (view.new ≡ view.old) }
+    ensures few { IfSome result (λ f. length f.content.now ≤ longest_content) }
     ensures exact { Takes frame_view result view.old view.new (frame_at view.old) }
 {
     let _bytes = view.rest();

@@ -1,12 +1,12 @@
-ghost use Rattle.std.specs.Prelude.{◌≡◌, option_map, is_some, length};
+ghost use Rattle.std.specs.Prelude.{◌≡◌, option_map, is_some, length, MatchBool};
 ghost use Rattle.avm_num.specs.Bytes.{Takes};
-ghost use Rattle.avm_model.specs.Packet.{packet_at, data_at, ack_at, send_at, recv_at};
+ghost use Rattle.avm_model.specs.Packet.{packet_at, data_at, ack_at, send_at, recv_at, IsData, IsAck};
 ghost use Rattle.log_entry.specs.Views.{body_view};
 
 use crate::parts::{take_count, take_ordinal, take_signature};
 use crate::reading::{recv, send};
 use avm_model::Digest;
-use avm_num::View;
+use avm_num::{View, are_bytes};
 
 /// A packet's parts: the sender, the number of the entry that it committed to, the hash before that entry, the entry's
 /// content, and the signature.
@@ -103,14 +103,18 @@ pub fn ack_body<'a>(bytes: &'a [u8]) -> Option<Body<'a>>
 
 /// Whether the bytes are a DATA packet.
 pub fn is_data(bytes: &[u8]) -> bool
-    ensures { result ≡ is_some (data_at bytes.now) }
+    ensures packet { MatchBool result (IsData bytes.now) (IsData bytes.now → ⊥) }
+    ensures exact { result ≡ is_some (data_at bytes.now) }
 {
+    are_bytes(bytes);
     data_body(bytes).is_some()
 }
 
 /// Whether the bytes are an ACK packet.
 pub fn is_ack(bytes: &[u8]) -> bool
-    ensures { result ≡ is_some (ack_at bytes.now) }
+    ensures packet { MatchBool result (IsAck bytes.now) (IsAck bytes.now → ⊥) }
+    ensures exact { result ≡ is_some (ack_at bytes.now) }
 {
+    are_bytes(bytes);
     ack_body(bytes).is_some()
 }

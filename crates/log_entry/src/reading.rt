@@ -1,4 +1,4 @@
-ghost use Rattle.std.specs.Prelude.{◌≡◌, option_map, IfSome, IfNone};
+ghost use Rattle.std.specs.Prelude.{◌≡◌, Some, option_map, IfSome, IfNone};
 ghost use Rattle.avm_model.specs.Content.{ContentData, FitsContent, kind_of, content_bytes, content_at, form_of_kind};
 ghost use Rattle.log_entry.specs.Views.{content_view};
 
@@ -145,6 +145,7 @@ pub fn form<'a>(kind: u8, bytes: &'a [u8]) -> Option<Content<'a>>
 pub fn content<'a>(frame: &Frame<'a>) -> Option<Content<'a>>
     ensures found { IfSome result (λ c. FitsContent (content_view c) × (kind_of (content_view c) ≡ frame.now.kind) × (content_bytes (content_view c) ≡ frame.now.content.now)) }
     ensures none { IfNone result ((c : ContentData) → FitsContent c → kind_of c ≡ frame.now.kind → content_bytes c ≡ frame.now.content.now → ⊥) }
+    ensures only { (c : ContentData) → FitsContent c → kind_of c ≡ frame.now.kind → content_bytes c ≡ frame.now.content.now → option_map content_view result ≡ Some c }
     ensures exact { option_map content_view result ≡ content_at frame.now.kind frame.now.content.now }
 {
     are_bytes(frame.content);
