@@ -1,0 +1,5 @@
+pub mod Contents
+pub mod Kept
+pub mod Settles
+pub mod Judged
+pub mod Short

@@ -1,0 +1,5 @@
+pub mod Incoming
+pub mod Messages
+pub mod Pending
+pub mod Replaying
+pub mod Taking

@@ -1,0 +1,17 @@
+//! Replay: packets are judged and offered to a machine, and a log is judged one entry at a time.
+#![tactic(auto)]
+
+mod judging;
+mod messages;
+mod offering;
+mod pending;
+mod replay;
+mod settling;
+mod signed;
+mod snapshot;
+mod taking;
+
+pub use guest_machine::NotTaken;
+pub use offering::{Offered, offer};
+pub use replay::{Fault, Replay};
+pub use signed::authentic;
