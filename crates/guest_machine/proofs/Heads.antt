@@ -1,13 +1,15 @@
 -- The bounds of a head: what the parts of a machine keep, and what the machine adds.
-use Rattle.std.proofs.Common.{◌≡◌, ◌/◌, ◌%◌, ◌^◌, refl, arith, Bool, true, false, not, ◌&&◌, List, length, None}
+use Rattle.std.proofs.Common.{◌≡◌, ◌/◌, ◌%◌, ◌^◌, refl, arith, Bool, true, false, not, ◌&&◌, List, [], length, None, ◌-◌, ◌≤◌, ◌<◌, ℕ}
 use Rattle.std.specs.Prelude.{◌==◌, nat_le, nat_lt}
 use Rattle.std.proofs.lemmas.Bool.{and_parts, and_from}
 use Rattle.std.proofs.lemmas.Bool.Decides.{nat_tests}
 use Rattle.avm_model.specs.Bounds.{is_page_count, are_rows, none_past, has_ten, are_messages, is_front, is_hart, are_queues, suits, is_head}
-use Rattle.avm_model.specs.DeviceBounds.{IsDevices}
+use Rattle.avm_model.specs.Device.{fresh}
+use Rattle.avm_model.specs.DeviceBounds.{IsPeered, IsDevices}
 use Rattle.avm_model.specs.HeadState.{data_of}
 use Rattle.avm_model.specs.Memory.{IsRam}
-use Rattle.avm_model.specs.Machine.{State}
+use Rattle.avm_model.specs.Machine.{State, initial}
+use Rattle.avm_model.specs.declared.Peer.{Peer}
 use Rattle.guest_machine.specs.Rest.{IsAtRest}
 
 five : (a b c d e : Bool) → (a && b && c && d && e) ≡ true → (a ≡ true) × (b ≡ true) × (c ≡ true) × (d ≡ true) × (e ≡ true)
@@ -79,3 +81,12 @@ rest_head s dirty rest aligned ram devices =
     let result : nat_le s.devices.tx_result 3 ≡ true = grind (arith, nat_tests, devices.result) in
     and_from (is_front h.front && is_hart h.hart && none_past h.hart.count h.front.peers && are_queues h.front.peers h.queues && suits h.hart.status h.queues) (nat_le h.transmit.result 3)
     (all_five (is_front h.front) (is_hart h.hart) (none_past h.hart.count h.front.peers) (are_queues h.front.peers h.queues) (suits h.hart.status h.queues) front hart rest.sent queues rest.suited) result
+
+-- a machine that boots
+pub new_head : (own : ℕ) (peers : List Peer) (bytes : List ℕ) (dirty : List Bool) (snap pc : ℕ) → own < 16 → are_rows own 0 peers ≡ true → none_past 0 peers ≡ true → none_past (2 ^ 62 - 1) peers ≡ true → 1024 ≤ snap → snap ≤ 2 ^ 24 → pc % 4 ≡ 0 → IsRam bytes dirty → is_head (data_of (initial (fresh own peers) bytes snap pc)) ≡ true
+new_head own peers bytes dirty snap pc low rows none sent least most aligned ram =
+    let s = initial (fresh own peers) bytes snap pc in
+    let rest : IsAtRest s = record { snap_least = least; snap_most = most; count = omega arith; sent = none; line = omega arith; text = refl; suited = refl; clock = λ some. cc } in
+    let peered : IsPeered own peers [] = record { self = low; rows = rows; sent = sent; known = refl } in
+    let devices : IsDevices (fresh own peers) = record { peered = peered; line = omega arith; console = omega arith; messages = omega arith; result = omega arith } in
+    rest_head s dirty rest aligned ram devices
