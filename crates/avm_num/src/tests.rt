@@ -3,6 +3,7 @@
 use crate::{Room, View};
 
 #[test]
+#[tactic(auto, unfolding(crate::specs::Room::left))]
 fn what_is_put_is_taken(rt: HostRuntime) {
     let Ok(mut room) = Room::new(rt.alloc(), 16) else {
         assert!(rt; false);
