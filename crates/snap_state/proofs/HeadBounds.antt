@@ -1,16 +1,15 @@
 -- What the bounds of a head say, and how long a head can be.
-use Rattle.std.proofs.Common.{◌≡◌, ℕ, zero, suc, ◌+◌, ◌*◌, ◌-◌, ◌%◌, ◌^◌, ◌<◌, ◌≤◌, Bool, true, false, cond, not, nat_eq, nat_lt, nat_le, ◌&&◌, ◌||◌, List, [], ◌∷◌, length, Option, Some, None, is_some, IsSome, slice_get, refl, sym, ap, ◌∙◌, arith, inl, inr}
+use Rattle.std.proofs.Common.{◌≡◌, ℕ, zero, suc, ◌+◌, ◌*◌, ◌%◌, ◌^◌, ◌<◌, ◌≤◌, Bool, true, false, cond, not, nat_eq, nat_lt, nat_le, ◌&&◌, List, [], ◌∷◌, length, Some, None, is_some, IsSome, slice_get, refl, sym, ap, ◌∙◌, arith, inl, inr}
 use Rattle.std.specs.List.{prefix_len}
 use Rattle.std.proofs.lemmas.Bool.{cases_Bool, cases_lt, and_parts, eqb-true, ltb-true, lt-ltb, leb-true, le-leb, eq-eqb}
-use Rattle.avm_num.specs.Bytes.{◌>>=◌, kept}
 use Rattle.avm_num.proofs.Numbers.{bind_some, kept_some, and_true}
-use Rattle.avm_model.specs.Device.{MessageState, row_at, row_of, find_peer}
+use Rattle.avm_model.specs.Device.{MessageState, row_at, row_of}
 use Rattle.avm_model.specs.declared.Peer.{Peer}
 use Rattle.avm_model.specs.Head.{HeadData}
 use Rattle.avm_model.specs.HeadReading.{parts_at, head_of}
 use Rattle.avm_model.specs.Memory.{is_page_count}
 use Rattle.avm_model.specs.Bounds.{is_row, are_rows, none_past, knows, are_messages, has_ten, is_front, is_hart, are_queues, suits, is_head}
-use Rattle.avm_model.proofs.PeerLaws.{IsRow, row_parts}
+use Rattle.avm_model.proofs.PeerLaws.{row_parts}
 use Rattle.snap_state.specs.Sizes.{messages_size, head_size}
 
 pub record Bounded (h : HeadData) : Type 0 where
@@ -56,7 +55,8 @@ bounded h e =
       console = leb-true (length q.console) 1024 y.1;
       messages = leb-true (length q.messages) 8 x.1;
       known = w.1;
-      result = leb-true h.transmit.result 3 a.1 }
+      result = leb-true h.transmit.result 3 a.1;
+    }
 
 -- what is read as a head is within the bounds
 pub head_bounded : (bytes : List ℕ) (h : HeadData) → head_of bytes ≡ Some h → is_head h ≡ true
@@ -92,10 +92,12 @@ fewer_rows own low [] self e le = omega arith
 fewer_rows own low (p ∷ ps) self e le =
     let r = row_id own low p ps e in
     elim (cases_lt p.id own) [
-    | inl before ↦ let ih = fewer_rows own (p.id + 1) ps self r.3 (omega arith) in omega (arith, ih, r.0)
-    | inr past ↦ elim (cases_lt own p.id) [
+      | inl before ↦ let ih = fewer_rows own (p.id + 1) ps self r.3 (omega arith) in omega (arith, ih, r.0)
+      | inr past ↦ elim (cases_lt own p.id) [
         | inl after ↦ let ih = few_rows own (p.id + 1) ps r.3 (omega (arith, r.1)) in omega (arith, ih)
-        | inr here ↦ absurd (r.2 (omega arith)) ] ]
+        | inr here ↦ absurd (r.2 (omega arith))
+      ]
+    ]
 
 pub rows_few : (h : HeadData) → is_head h ≡ true → length h.front.peers < 16
 rows_few h e = let b = bounded h e in let f = fewer_rows h.front.own 0 h.front.peers b.own b.rows (omega arith) in omega (arith, f)
@@ -119,7 +121,8 @@ known_from (x ∷ xs) id e =
       | inr is ↦
           let e' : knows xs id ≡ true = rw is at e in
           let low = ltb-true n (length xs) (known_from xs id e') in
-          rw is (lt-ltb (1 + n) (suc (length xs)) (omega (arith, low))) ]
+          rw is (lt-ltb (1 + n) (suc (length xs)) (omega (arith, low)))
+    ]
 
 inside : {X : Type 0} (xs : List X) (i : ℕ) → i < length xs → is_some (slice_get xs i) ≡ true
 inside [] i lt = absurd (omega arith)

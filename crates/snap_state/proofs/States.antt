@@ -1,5 +1,5 @@
 -- A head's data are those of its state, and a state without a pending clock is that of its head and its RAM.
-use Rattle.std.proofs.Common.{◌≡◌, ℕ, ◌+◌, ◌/◌, ◌<◌, List, [], ◌∷◌, length, drop, Option, None, slice_index, refl, sym, ap, ◌∙◌, arith}
+use Rattle.std.proofs.Common.{◌≡◌, ℕ, ◌/◌, ◌<◌, List, [], ◌∷◌, length, drop, Option, None, slice_index, sym, ap, ◌∙◌, arith}
 use Rattle.avm_model.specs.Machine.{State}
 use Rattle.avm_model.specs.Head.{HeadData}
 use Rattle.avm_model.specs.HeadState.{state_of, data_of}

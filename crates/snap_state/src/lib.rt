@@ -2,11 +2,11 @@
 #![tactic(auto)]
 
 mod bounds;
+mod draft;
 mod machine;
 mod messages;
 mod parts;
 mod peers;
-mod draft;
 mod put;
 mod queues;
 mod words;

@@ -24,7 +24,13 @@ fn put_who(out: &mut Draft, machine: &Machine)
 {
     machine.bounds();
     let devices = machine.devices();
-    put_front(out, devices.own(), machine.snap(), machine.ram().pages(), devices.peers());
+    put_front(
+        out,
+        devices.own(),
+        machine.snap(),
+        machine.ram().pages(),
+        devices.peers(),
+    );
 }
 
 /// All registers but the first.

@@ -1,6 +1,6 @@
 use Rattle.std.proofs.Common.{arith, refl, ◌-◌, ◌^◌}
 use Rattle.snap_state.specs.Views.{head_view}
-use Rattle.snap_state.proofs.HeadBounds.{Bounded, bounded, past_more}
+use Rattle.snap_state.proofs.HeadBounds.{bounded, past_more}
 use Rattle.snap_state.proofs.machine.devices_of.Goals as goal
 
 pub new-requires-clause-self_id : goal.new-requires-clause-self_id

@@ -5,4 +5,5 @@ use Rattle.snap_state.proofs.queues.put_console.Given as goal
 abbrev pub invariant-loop-i : goal.invariant-loop-i
 invariant-loop-i l = record {
   value : with_bytes l.out (drop l.i l.devices.console) ≡ with_bytes l.fn.out l.devices.console;
-  left : left l.out + l.i ≡ left l.fn.out }
+  left : left l.out + l.i ≡ left l.fn.out;
+}

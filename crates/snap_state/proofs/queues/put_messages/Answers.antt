@@ -27,4 +27,5 @@ loop-i-preserved c =
     let s = size_from c.args.devices.now.messages c.loop-i.i m c.message_at-peer.ensures in
     record {
       value = ap (λ (b : Buffer). with_bytes b (list_bytes message_bytes (drop (c.loop-i.i + 1) c.args.devices.now.messages))) v ∙ message_put c.loop-i.out c.args.devices.now.messages c.loop-i.i m c.message_at-peer.ensures ∙ i.value;
-      left = omega (arith, l, s) }
+      left = omega (arith, l, s);
+    }

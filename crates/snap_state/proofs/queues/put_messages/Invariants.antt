@@ -8,4 +8,5 @@ use Rattle.snap_state.proofs.queues.put_messages.Given as goal
 abbrev pub invariant-loop-i : goal.invariant-loop-i
 invariant-loop-i l = record {
   value : with_bytes l.out (list_bytes message_bytes (drop l.i l.devices.messages)) ≡ with_bytes l.fn.out (list_bytes message_bytes l.devices.messages);
-  left : left l.out + messages_size l.devices.messages ≡ left l.fn.out + messages_size (drop l.i l.devices.messages) }
+  left : left l.out + messages_size l.devices.messages ≡ left l.fn.out + messages_size (drop l.i l.devices.messages);
+}

@@ -1,4 +1,4 @@
-use Rattle.std.proofs.Common.{◌≡◌, ◌∙◌, ap, drop, List, ℕ}
+use Rattle.std.proofs.Common.{◌∙◌, ap, drop, List, ℕ}
 use Rattle.avm_num.specs.Room.{with_bytes}
 use Rattle.avm_model.specs.Hart.{HartState}
 use Rattle.avm_model.specs.Head.{hart_bytes}
