@@ -1,11 +1,11 @@
 -- What the bounds of a head say, and how long a head can be.
 use Rattle.std.proofs.Common.{◌≡◌, ℕ, zero, suc, ◌+◌, ◌*◌, ◌%◌, ◌^◌, ◌<◌, ◌≤◌, Bool, true, false, cond, not, nat_eq, nat_lt, nat_le, ◌&&◌, List, [], ◌∷◌, length, Some, None, is_some, IsSome, slice_get, refl, sym, ap, ◌∙◌, arith, inl, inr}
-use Rattle.std.specs.List.{prefix_len}
+use Rattle.std.specs.List.{prefix_len, AllByRecursion}
 use Rattle.std.proofs.lemmas.Bool.{cases_Bool, cases_lt, and_parts, eqb-true, ltb-true, lt-ltb, leb-true, le-leb, eq-eqb}
 use Rattle.avm_num.proofs.Numbers.{bind_some, kept_some, and_true}
 use Rattle.avm_model.specs.Device.{MessageState, row_at, row_of}
 use Rattle.avm_model.specs.declared.Peer.{Peer}
-use Rattle.avm_model.specs.Head.{HeadData}
+use Rattle.avm_model.specs.Head.{HeadData, FitsMessage}
 use Rattle.avm_model.specs.HeadReading.{parts_at, head_of}
 use Rattle.avm_model.specs.Memory.{is_page_count}
 use Rattle.avm_model.specs.Bounds.{is_row, are_rows, none_past, knows, are_messages, has_ten, is_front, is_hart, are_queues, suits, is_head}
@@ -161,3 +161,10 @@ size_most h e =
     let console = b.console in
     let messages = b.messages in
     omega (arith, few, short)
+
+pub messages_fit : (peers : List Peer) (ms : List MessageState) → are_messages peers ms ≡ true → AllByRecursion FitsMessage ms
+messages_fit peers [] e = tt
+messages_fit peers (m ∷ ms) e =
+    let a = and_parts (nat_le (length m.payload) 1024 && knows peers m.peer) (are_messages peers ms) e in
+    let b = leb-true (length m.payload) 1024 (and_parts (nat_le (length m.payload) 1024) (knows peers m.peer) a.0).0 in
+    (omega (arith, b), messages_fit peers ms a.1)

@@ -3,6 +3,7 @@
 
 mod bounds;
 mod draft;
+mod fitting;
 mod machine;
 mod messages;
 mod parts;
@@ -14,7 +15,7 @@ mod writing;
 
 pub use machine::machine_of;
 pub use parts::read_head;
-pub use writing::{put_head, state_root};
+pub use writing::{head_len, put_head, state_root};
 
 #[cfg(test)]
 mod tests;

@@ -1,12 +1,14 @@
-ghost use Rattle.std.specs.Prelude.{◌≡◌, ◌+◌, ◌*◌, ◌≤◌, None, drop, length};
+ghost use Rattle.std.specs.Prelude.{◌≡◌, ◌+◌, ◌*◌, ◌≤◌, None, Some, drop, length};
 ghost use Rattle.avm_num.specs.Room.{with_bytes, left};
 ghost use Rattle.avm_model.specs.Head.{front_bytes, hart_bytes, transmit_bytes, head_bytes};
-ghost use Rattle.avm_model.specs.HeadState.{data_of};
+ghost use Rattle.avm_model.specs.HeadReading.{head_of};
+ghost use Rattle.avm_model.specs.HeadState.{data_of, state_of};
 ghost use Rattle.avm_model.specs.Pages.{sha_hashes, root_of};
 ghost use Rattle.avm_model.specs.Root.{root, root_over};
 ghost use Rattle.snap_state.specs.Sizes.{head_size};
 
 use crate::draft::Draft;
+use crate::fitting::{behind_first, first_is_zero, head_fits};
 use crate::put::{put_front, put_hart, put_transmit};
 use crate::queues::put_queues;
 use avm_hash::{Digest, Hasher};
@@ -31,18 +33,6 @@ fn put_who(out: &mut Draft, machine: &Machine)
         machine.ram().pages(),
         devices.peers(),
     );
-}
-
-/// All registers but the first.
-fn behind_first(x: &[u32]) -> &[u32]
-    requires { length x.now ≡ 32 }
-    ensures value { result.now ≡ drop 1 x.now }
-    ensures len { length result.now ≡ 31 }
-{
-    match x {
-        [_, rest @ ..] => rest,
-        [] => x,
-    }
 }
 
 /// Writes registers 1 to 31 and pc of a hart, and where it stands.
@@ -95,13 +85,27 @@ fn draft_of(machine: &Machine) -> Draft
     out
 }
 
-/// Writes the head of a machine, which has at most 11,774 bytes.
+/// How many bytes the head of a machine has.
+pub fn head_len(machine: &Machine) -> usize
+    ensures value { result ≡ length (head_bytes (data_of machine.now.state)) }
+    ensures most { result ≤ 11774 }
+{
+    draft_of(machine).bytes().len()
+}
+
+/// Writes the head of a machine, which is a head again.
+#[tactic(auto, using(crate::proofs::HeadLaws::head_again, crate::proofs::States::state_again))]
 pub fn put_head(out: &mut Room, machine: &Machine)
     requires clock { machine.now.state.devices.clock ≡ None }
     requires room { length (head_bytes (data_of machine.now.state)) ≤ left out.old }
     ensures value { out.new ≡ with_bytes out.old (head_bytes (data_of machine.now.state)) }
     ensures left { left out.new + length (head_bytes (data_of machine.now.state)) ≡ left out.old }
+    ensures read { head_of (head_bytes (data_of machine.now.state)) ≡ Some (data_of machine.now.state) }
+    ensures state { state_of (data_of machine.now.state) machine.now.state.ram ≡ machine.now.state }
 {
+    machine.bounds();
+    head_fits(machine);
+    first_is_zero(machine.hart());
     let draft = draft_of(machine);
     out.put(draft.bytes());
 }
