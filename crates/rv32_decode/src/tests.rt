@@ -497,7 +497,7 @@ fn counts(rt: HostRuntime) {
         let mut count = 0u64;
         for functions in 0..1024u32 {
             if decode(opcode + (functions % 8 << 12) + (functions / 8 << 25)).is_some() {
-                count += 1;
+                count = count.wrapping_add(1);
             }
         }
         let row = PAIRS.iter().find(|row| row.0 == opcode);
