@@ -12,23 +12,19 @@ use rv32_core::Hart;
 
 fn are_words(words: &[u32])
     ensures { AllByRecursion (λ n. n < 2 ^ 32) words.now }
-{
-}
+{}
 
 fn is_word(n: u32)
     ensures { n < 2 ^ 32 }
-{
-}
+{}
 
 fn is_long(n: u64)
     ensures { n < 2 ^ 64 }
-{
-}
+{}
 
 fn is_key(key: &[u8; 56])
     ensures { length key.now ≡ 56 }
-{
-}
+{}
 
 fn is_peer(peer: &Peer)
     ensures { FitsPeer peer.now }
@@ -114,8 +110,7 @@ fn queues_fit(machine: &Machine)
 
 fn is_window(window: &[u8; 1024])
     ensures { length window.now ≡ 1024 }
-{
-}
+{}
 
 fn window_fits(devices: &Devices)
     ensures { length devices.now.window ≡ 1024 }

@@ -1,4 +1,11 @@
-use crate::read_head;
+ghost use Rattle.std.specs.Prelude.{◌≡◌, None, IfSome};
+
+use crate::parts::parts_of;
+use crate::{head_len, machine_of, put_head, read_head, state_root};
+use avm_hash::Digest;
+use avm_num::Room;
+use guest_machine::Machine;
+use rv32_mem::Ram;
 use std::alloc::{AllocError, Global};
 use std::rt::HostRuntime;
 
@@ -266,4 +273,93 @@ fn a_head_has_its_length(rt: HostRuntime) {
     assert!(&rt; bytes.push(0).is_ok() && !read_head(bytes.as_slice()));
     bytes.truncate(1363);
     assert!(&rt; !read_head(bytes.as_slice()));
+}
+
+/// The machine of a head, with a RAM of zeros.
+fn machine_from(alloc: Global, head: &[u8]) -> Option<Machine>
+    ensures { IfSome result (λ m. m.state.devices.clock ≡ None) }
+{
+    let parts = parts_of(head)?;
+    let pages = parts.front.pages;
+    if pages == 0 || 4096 % pages != 0 {
+        return None;
+    }
+    let ram = Ram::new(alloc, pages).ok()?;
+    machine_of(alloc, head, ram).ok()
+}
+
+/// Whether the machine of a head has that head.
+#[tactic(auto, unfolding(avm_num::specs::Room::left))]
+fn is_written_again(alloc: Global, head: &[u8]) -> Option<bool> {
+    let machine = machine_from(alloc, head)?;
+    let mut room = Room::new(alloc, head_len(&machine)).ok()?;
+    put_head(&mut room, &machine);
+    Some(room.bytes() == head)
+}
+
+/// The head of a machine that boots: one page, K 1024, no peers.
+fn booting(alloc: Global) -> Result<Vec<u8>, AllocError> {
+    let mut out = Vec::new(alloc);
+    out.extend_from_slice(&[1, 0, 0, 0, 4, 0, 0, 0, 0, 1, 0])?;
+    push_many(&mut out, 124, 0)?;
+    out.push(128)?;
+    push_many(&mut out, 1056, 0)?;
+    Ok(out)
+}
+
+/// A head with all rows and full queues.
+fn full(alloc: Global) -> Result<Vec<u8>, AllocError> {
+    let shape = Shape {
+        own: 7,
+        ids: &[0, 1, 2, 3, 4, 5, 6, 8, 9, 10, 11, 12, 13, 14, 15],
+        line: 127,
+        console: 1024,
+        messages: 8,
+        payload: 1024,
+        status: 0,
+    };
+    head(alloc, shape)
+}
+
+#[test]
+fn machines_are_read_and_written(rt: HostRuntime) {
+    let heads = [
+        (booting(rt.alloc()), 1192),
+        (middle(rt.alloc()), 1364),
+        (full(rt.alloc()), 11774),
+    ];
+    for (head, len) in heads {
+        let Ok(bytes) = head else {
+            assert!(&rt; false);
+            return;
+        };
+        assert!(&rt; bytes.len() == len);
+        assert!(&rt;
+            is_written_again(rt.alloc(), bytes.as_slice()) == Some(true),
+            "{len} bytes"
+        );
+    }
+}
+
+#[test]
+fn a_root_is_that_of_an_independent_program(rt: HostRuntime) {
+    let Ok(bytes) = booting(rt.alloc()) else {
+        assert!(&rt; false);
+        return;
+    };
+    let Some(machine) = machine_from(rt.alloc(), bytes.as_slice()) else {
+        assert!(&rt; false);
+        return;
+    };
+    let pages = [
+        0x81, 0xc1, 0x44, 0x17, 0x08, 0x11, 0xc2, 0x3e, 0xb3, 0xe2, 0x76, 0xb8, 0x2e, 0x63, 0x7c,
+        0x38, 0x25, 0xc0, 0x4a, 0x35, 0x2c, 0x42, 0xb3, 0xc7, 0x85, 0x9e, 0x77, 0x24, 0x12, 0x65,
+        0x37, 0xe0,
+    ];
+    let want = [
+        0xa0, 0xd3, 0x14, 0xbe, 0x79, 0x46, 0x11, 0xa1, 0x7d, 0xe4, 0x2c, 0xf2, 0x22, 0xf7, 0xa4,
+        0xf0, 0x90, 0x0c, 0xed, 0x41, 0x12, 0x12, 0xe0, 0x9e, 0x77, 0xee, 0xf9, 0x5c, 0xa8, 0x60,
+        0x21, 0x14,
+    ];
+    assert!(&rt; state_root(&machine, &Digest(pages)) == Digest(want));
 }
