@@ -9,3 +9,6 @@ mod words;
 
 pub use types::{BadWords, Job, Signed};
 pub use words::{job, spare_word, store_word};
+
+#[cfg(test)]
+mod tests;
