@@ -1,0 +1,4 @@
+pub mod Pairs
+pub mod Table
+pub mod Cases
+pub mod Tests
