@@ -7,6 +7,8 @@ mod message;
 mod queue;
 mod rows;
 mod stores;
+#[cfg(test)]
+mod tests;
 mod words;
 
 pub use avm_model::Peer;
