@@ -17,3 +17,4 @@ pub mod StepLaws
 pub mod ReferenceLaws
 pub mod ReferenceShort
 pub mod PeerLaws
+pub mod ImageLaws

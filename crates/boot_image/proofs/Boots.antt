@@ -1,0 +1,34 @@
+-- What loading an image into zeros says of the test of its initial state.
+use Rattle.std.proofs.Common.{◌≡◌, ℕ, ◌*◌, ◌/◌, Bool, true, false, List, length, replicate, Option, Some, None, refl, sym, ap, subst, ◌∙◌, arith}
+use Rattle.std.proofs.lemmas.List.{length-replicate}
+use Rattle.avm_model.specs.Image.{load_fault, loaded, entry_of}
+use Rattle.avm_model.specs.ImageState.{Image, Gives, Refuses, image, image_by, is_booted, is_booted_from, is_image_of}
+use Rattle.avm_model.specs.Machine.{State}
+use Rattle.avm_model.specs.declared.loading.LoadFault.{LoadFault}
+
+-- the page count of the state
+abbrev Holds : State → ℕ → Type 0
+Holds s pages = length s.ram / 4096 ≡ pages
+
+blank_fault : (file blank : List ℕ) (pages : ℕ) (o : Option LoadFault) → blank ≡ replicate (4096 * pages) 0 → load_fault (length blank) file ≡ o → load_fault (4096 * pages) file ≡ o
+blank_fault file blank pages o b f = ap (λ n. load_fault n file) (sym (ap length b ∙ length-replicate (4096 * pages) 0)) ∙ f
+
+image_gives : (file : List ℕ) (pages : ℕ) → load_fault (4096 * pages) file ≡ None → image pages file ≡ Gives (loaded (replicate (4096 * pages) 0) file) (entry_of file)
+image_gives file pages f = ap (λ o. image_by o (loaded (replicate (4096 * pages) 0) file) (entry_of file)) f
+
+image_refuses : (file : List ℕ) (pages : ℕ) (fault : LoadFault) → load_fault (4096 * pages) file ≡ Some fault → image pages file ≡ Refuses fault
+image_refuses file pages fault f = ap (λ o. image_by o (loaded (replicate (4096 * pages) 0) file) (entry_of file)) f
+
+pub loaded_test : (s : State) (file blank ram : List ℕ) (entry pages : ℕ) → Holds s pages → blank ≡ replicate (4096 * pages) 0 → load_fault (length blank) file ≡ None → ram ≡ loaded blank file → entry ≡ entry_of file → is_booted s ram entry ≡ is_image_of s file
+unfolding is_image_of
+loaded_test s file blank ram entry pages holds b f r e =
+    let gives = image_gives file pages (blank_fault file blank pages None b f) in
+    let held : ram ≡ loaded (replicate (4096 * pages) 0) file = r ∙ ap (λ z. loaded z file) b in
+    ap (λ z. is_booted s z entry) held
+    ∙ ap (λ n. is_booted s (loaded (replicate (4096 * pages) 0) file) n) e
+    ∙ sym (ap (is_booted_from s) (ap (λ n. image n file) holds ∙ gives))
+
+pub refused_test : (s : State) (file blank : List ℕ) (pages : ℕ) (fault : LoadFault) → Holds s pages → blank ≡ replicate (4096 * pages) 0 → load_fault (length blank) file ≡ Some fault → false ≡ is_image_of s file
+unfolding is_image_of
+refused_test s file blank pages fault holds b f =
+    sym (ap (is_booted_from s) (ap (λ n. image n file) holds ∙ image_refuses file pages fault (blank_fault file blank pages (Some fault) b f)))
