@@ -1,6 +1,10 @@
 //! Accesses at the edges of RAM, the marks, and a RAM of the most pages.
 
+ghost use Rattle.std.specs.Prelude.{IsTrue};
+ghost use Rattle.avm_model.specs.Memory.{is_page_count};
+
 use crate::Ram;
+use std::alloc::Global;
 
 /// Whether it is a store, address, bytes, the value to be stored, and what is loaded; None: refused.
 const ACCESSES: [(bool, u32, u32, u32, Option<u32>); 34] = [
@@ -42,7 +46,7 @@ const ACCESSES: [(bool, u32, u32, u32, Option<u32>); 34] = [
 
 #[test]
 fn accesses_and_marks(rt: HostRuntime) {
-    let Ok(mut ram) = Ram::new(rt.alloc(), 2) else {
+    let Some(mut ram) = blank(rt.alloc(), 2) else {
         panic!(rt; "memory");
     };
     for &(stores, addr, size, value, want) in &ACCESSES {
@@ -67,7 +71,7 @@ fn accesses_and_marks(rt: HostRuntime) {
 
 #[test]
 fn marks(rt: HostRuntime) {
-    let Ok(mut ram) = Ram::new(rt.alloc(), 4) else {
+    let Some(mut ram) = blank(rt.alloc(), 4) else {
         panic!(rt; "memory");
     };
     assert_eq!(rt; (ram.pages(), ram.bytes().len()), (4, 16384));
@@ -81,6 +85,7 @@ fn marks(rt: HostRuntime) {
     assert!(rt; ram.pages() == 4);
     ram.set_page(2, &[9; 4096]);
     assert_eq!(rt; marked(&ram), [false, false, true, false]);
+    assert!(rt; ram.pages() == 4);
     assert_eq!(rt;
         (
             ram.page(1)[4095],
@@ -97,8 +102,10 @@ fn marks(rt: HostRuntime) {
     clean(&mut ram);
     assert!(rt; ram.bytes().len() == 16384);
     ram.clear(8192, 4096);
+    assert!(rt; ram.bytes().len() == 16384);
     ram.put(16384, &[]);
     assert_eq!(rt; marked(&ram), [false, false, true, false]);
+    assert!(rt; ram.bytes().len() == 16384);
     assert_eq!(rt;
         (ram.bytes()[4095], ram.bytes()[4096], ram.bytes()[8192]),
         (1, 2, 0)
@@ -107,13 +114,21 @@ fn marks(rt: HostRuntime) {
 
 #[test]
 fn the_most_pages(rt: HostRuntime) {
-    let Ok(mut ram) = Ram::new(rt.alloc(), 4096) else {
+    let Some(mut ram) = blank(rt.alloc(), 4096) else {
         panic!(rt; "memory");
     };
     assert!(rt; ram.store(0x80ff_fffc, 4, 0x89ab_cdef));
     assert_eq!(rt; ram.load(0x80ff_fffe, 2), Some(0x89ab));
     assert_eq!(rt; ram.load(0x8100_0000, 1), None);
+    assert!(rt; ram.pages() == 4096);
     assert!(rt; ram.dirty(4095) && !ram.dirty(4094));
+}
+
+/// RAM of zeros. The tests look at it alone, and not at what its contract says of it.
+fn blank(alloc: Global, pages: u32) -> Option<Ram>
+    requires { IsTrue (is_page_count pages) }
+{
+    Ram::new(alloc, pages).ok()
 }
 
 fn marked(ram: &Ram) -> [bool; 4] {
