@@ -1,8 +1,8 @@
 -- What loading an image into zeros says of the test of its initial state.
-use Rattle.std.proofs.Common.{◌≡◌, ℕ, ◌*◌, ◌/◌, Bool, true, false, List, length, replicate, Option, Some, None, refl, sym, ap, subst, ◌∙◌, arith}
+use Rattle.std.proofs.Common.{◌≡◌, ℕ, ◌*◌, ◌/◌, false, List, length, replicate, Option, Some, None, sym, ap, ◌∙◌}
 use Rattle.std.proofs.lemmas.List.{length-replicate}
 use Rattle.avm_model.specs.Image.{load_fault, loaded, entry_of}
-use Rattle.avm_model.specs.ImageState.{Image, Gives, Refuses, image, image_by, is_booted, is_booted_from, is_image_of}
+use Rattle.avm_model.specs.ImageState.{Gives, Refuses, image, image_by, is_booted, is_booted_from, is_image_of}
 use Rattle.avm_model.specs.Machine.{State}
 use Rattle.avm_model.specs.declared.loading.LoadFault.{LoadFault}
 

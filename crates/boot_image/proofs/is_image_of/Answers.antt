@@ -1,6 +1,5 @@
-use Rattle.std.proofs.Common.{◌≡◌, ◌*◌, ◌/◌, ◌∙◌, length, true, sym, ap, subst, arith}
+use Rattle.std.proofs.Common.{◌≡◌, ◌/◌, ◌∙◌, length, sym, ap, subst, arith}
 use Rattle.avm_model.specs.Memory.{RamState, IsRam}
-use Rattle.avm_model.specs.ImageState.{IsImageOf, is_image_of}
 use Rattle.avm_model.proofs.ImageLaws.{image_from, image_to}
 use Rattle.boot_image.proofs.Boots.{loaded_test, refused_test}
 use Rattle.boot_image.proofs.is_image_of.Goals as goal
