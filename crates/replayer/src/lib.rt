@@ -15,3 +15,6 @@ pub use guest_machine::NotTaken;
 pub use offering::{Offered, offer};
 pub use replay::{Fault, Replay};
 pub use signed::authentic;
+
+#[cfg(test)]
+mod tests;
