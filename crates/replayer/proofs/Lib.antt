@@ -3,3 +3,4 @@ pub mod Kept
 pub mod Settles
 pub mod Judged
 pub mod Short
+pub mod Built

@@ -1,6 +1,6 @@
 //! Logs of small guests, judged. What each log's first fault is comes from an independent program.
 
-ghost use Rattle.std.specs.Prelude.{IsTrue, ◌-◌, ◌^◌, IfOk};
+ghost use Rattle.std.specs.Prelude.{IsTrue, ◌-◌, ◌^◌, ◌≤◌, IfOk};
 ghost use Rattle.avm_model.specs.Bounds.{are_rows, none_past};
 
 use crate::{Fault, NotTaken, Offered, Replay, offer};
