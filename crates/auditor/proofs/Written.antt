@@ -1,5 +1,5 @@
 -- The evidence that is given fits its grammar, and stands.
-use Rattle.std.proofs.Common.{◌≡◌, ℕ, true, false, cond, nat_le, List, slice_get, length, is_some, IfSome, option_map, Option, Some, None, refl, sym, ap, subst, ◌∙◌}
+use Rattle.std.proofs.Common.{◌≡◌, ℕ, true, false, cond, nat_le, List, slice_get, length, is_some, IfSome, option_map, Option, Some, None, refl, sym, ap, subst, ◌∙◌, arith}
 use Rattle.avm_num.specs.Bytes.{IsBytes}
 use Rattle.avm_model.specs.Auth.{AuthData}
 use Rattle.avm_model.specs.Segment.{segment_bytes}
@@ -11,6 +11,7 @@ use Rattle.avm_model.specs.Holds.{Stands, evidence, has_evidence, with_two, byte
 use Rattle.avm_model.specs.declared.judged.Verdict.{Verdict}
 use Rattle.avm_model.specs.declared.judged.Verdict.TheVariants.{Malformed, BadAuth, Double, Uncommitted, Fork, Replay, Uncovered, Unmatched, Accepted}
 use Rattle.evid_file.specs.declared.evidence.Evidence.{Evidence}
+use Rattle.evid_file.specs.Short.{IsShort}
 use Rattle.evid_file.specs.Views.{evidence_view}
 use Rattle.evid_file.proofs.EvidenceLaws.{evidence_again}
 use Rattle.auditor.proofs.RowLaws.{with_some, then_some, first_pair_some, at_zero}
@@ -146,3 +147,13 @@ stands_all key segment auths v (Some e) sb ab len is only gave =
     let k = known segment auths g.«data» sb ab g.read in
     let f = evidence_fits segment auths key g.«data» v (evidence_view e) len k g.shown in
     record { «data» = evidence_view e; read = evidence_again (evidence_view e) f.0; key_is = f.1; holds = evidence_holds key g.«data» g.fault k.whole g.is_fault v g.verdict_is (evidence_view e) g.shown }
+
+-- its lengths fit fields of four bytes
+short_of : (e : EvidData) → FitsEvidence e → IsShort e
+short_of (double key a b) f = let x = f.body.0.sig in let y = f.body.1.sig in (omega (arith, x), omega (arith, y))
+short_of (fork key start before frames top other) f = let x = f.body.3.sig in let y = f.body.4.sig in (f.body.2, omega (arith, x), omega (arith, y))
+short_of (replay key segment top) f = let x = f.body.1.sig in (f.body.0, omega (arith, x))
+
+pub short_all : (r : Option Evidence) → IfSome r (λ e. FitsEvidence (evidence_view e)) → IfSome r (λ e. IsShort (evidence_view e))
+short_all None h = tt
+short_all (Some e) h = short_of (evidence_view e) h

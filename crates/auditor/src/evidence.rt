@@ -8,6 +8,7 @@ ghost use Rattle.avm_model.specs.Segment.{segment_bytes};
 ghost use Rattle.avm_model.specs.Evidence.{FitsEvidence, evidence_bytes};
 ghost use Rattle.avm_model.specs.Audit.{Judged, IsVerdict, judged_of, entry_frames};
 ghost use Rattle.avm_model.specs.Holds.{Stands, evidence, has_evidence};
+ghost use Rattle.evid_file.specs.Short.{IsShort};
 ghost use Rattle.evid_file.specs.Views.{evidence_view};
 ghost use Rattle.seg_file.specs.Views.{segment_view};
 
@@ -82,6 +83,7 @@ pub fn evidence_of<'a>(
     ensures value { (d : Judged) → judged_of segment.now auths.now ≡ Some d → option_map evidence_view result ≡ evidence key.now d verdict.now }
     ensures some { is_some result ≡ has_evidence verdict.now }
     ensures fits { IfSome result (λ e. FitsEvidence (evidence_view e)) }
+    ensures short { IfSome result (λ e. IsShort (evidence_view e)) }
     ensures stands { IfSome result (λ e. Stands key.now (evidence_bytes (evidence_view e))) }
 {
     are_bytes(segment);
