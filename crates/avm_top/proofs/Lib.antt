@@ -1,2 +1,5 @@
 pub mod Fronts
+pub mod Cuts
 pub mod Names
+pub mod Judged
+pub mod Checked

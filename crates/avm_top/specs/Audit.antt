@@ -1,5 +1,5 @@
 -- The command that judges a segment.
-use Rattle.std.specs.Prelude.{◌≡◌, ◌⊎◌, ℕ, List, [], Option, None, Some, replicate, if◌then◌else◌}
+use Rattle.std.specs.Prelude.{◌≡◌, ◌⊎◌, ℕ, List, [], ◌∷◌, Option, None, Some, replicate, if◌then◌else◌}
 use Rattle.avm_model.specs.Keys.{public_file}
 use Rattle.avm_model.specs.Job.{SignedData}
 use Rattle.avm_model.specs.Audit.{Judged, judged_of, IsVerdict, IsAcceptance}
@@ -11,7 +11,7 @@ use Rattle.avm_top.specs.declared.ends.FileOption.{FileOption}
 use Rattle.avm_top.specs.declared.ends.FileOption.TheVariants.{Segment, Key, Auths}
 use Rattle.avm_top.specs.declared.ends.End.{End}
 use Rattle.avm_top.specs.declared.ends.End.TheVariants as end
-use Rattle.avm_top.specs.FileMap.{FileMap}
+use Rattle.avm_top.specs.FileMap.{FileMap, SameFiles}
 use Rattle.avm_top.specs.Reading.{Finds, bytes_of}
 
 -- the verdict on a segment and authenticators, which is acceptance exactly by the conjunction
@@ -73,9 +73,32 @@ abbrev pub SignedEnds : List ℕ → SignedData → FileMap → FileMap → End 
 SignedEnds segment names old new e =
     (f : Found) × AreFound segment names old f × SignedEnd f (refused_input f.segment f.key f.auths) (old names.evidence) (new names.evidence) e
 
+-- the evidence file holds a front of the evidence
+abbrev pub JudgedCut : List ℕ → List ℕ → List ℕ → Option (Option (List ℕ)) → Option (Option (List ℕ)) → Type 0
+JudgedCut key segment auths old new =
+    (v : Verdict) × (e : EvidData) × IsJudged key segment auths v × (evidence_for key (judged_of segment auths) v ≡ Some e) × LeavesFront (evidence_bytes e) old new
+
 -- a call failed: the evidence file is as it was, or it holds a front of the evidence
 abbrev pub EvidenceCut : List ℕ → SignedData → FileMap → FileMap → Type 0
 EvidenceCut segment names old new =
     (new names.evidence ≡ old names.evidence)
-    ⊎ ((f : Found) × (v : Verdict) × (e : EvidData) × AreFound segment names old f × IsJudged (bytes_of f.key) (bytes_of f.segment) (bytes_of f.auths) v
-    × (evidence_for (bytes_of f.key) (judged_of (bytes_of f.segment) (bytes_of f.auths)) v ≡ Some e) × LeavesFront (evidence_bytes e) (old names.evidence) (new names.evidence))
+    ⊎ ((f : Found) × AreFound segment names old f × (refused_input f.segment f.key f.auths ≡ None)
+    × JudgedCut (bytes_of f.key) (bytes_of f.segment) (bytes_of f.auths) (old names.evidence) (new names.evidence))
+
+-- ---- the command, with and without an image
+
+-- the names of the files that it may change
+abbrev pub audit_writes : Option SignedData → List (List ℕ)
+audit_writes None = []
+audit_writes (Some names) = names.evidence ∷ []
+
+abbrev pub AuditEnds : List ℕ → Option (List ℕ) → Option SignedData → FileMap → FileMap → End → Type 0
+AuditEnds segment (Some image) signed old new e = e ≡ end.RefusedNotBuilt
+AuditEnds segment None None old new e = PlainEnds segment old e
+AuditEnds segment None (Some names) old new e = SignedEnds segment names old new e
+
+-- what a fault of the files leaves
+abbrev pub AuditLeaves : List ℕ → Option (List ℕ) → Option SignedData → FileMap → FileMap → Type 0
+AuditLeaves segment (Some image) signed old new = SameFiles old new
+AuditLeaves segment None None old new = SameFiles old new
+AuditLeaves segment None (Some names) old new = EvidenceCut segment names old new

@@ -1,9 +1,12 @@
 pub mod Reading
 pub mod FileMap
 pub mod Ends
+pub mod Said
 pub mod Printing
 pub mod Keygen
+pub mod KeyFile
 pub mod Audit
+pub mod Inputs
 pub mod Check
 pub mod Jobs
 pub mod Outcomes

@@ -4,7 +4,7 @@ use Rattle.avm_model.specs.Job.{JobData}
 use Rattle.avm_outside.specs.Outside.{Rises}
 use Rattle.avm_top.specs.declared.ends.End.{End}
 use Rattle.avm_top.specs.Ends.{status_of, text_of}
-use Rattle.avm_top.specs.FileMap.{FileMap}
+use Rattle.avm_top.specs.FileMap.{FileMap, SameFiles}
 use Rattle.avm_top.specs.Jobs.{EndsAs, LeavesAs}
 
 pub data Outcome : Type 0 where
@@ -12,10 +12,11 @@ pub data Outcome : Type 0 where
   NoMemory : Outcome
   FaultFiles : Outcome
 
--- which outcome a run may come to, by its job, the files before and after it, and their counts of faults
+-- which outcome a run may come to, by its job, the files before and after it, and their counts of faults; memory is wanted
+-- only before a file is changed
 abbrev pub Reaches : Outcome → Option JobData → FileMap → FileMap → ℕ → ℕ → Type 0
 Reaches (Ended end) job old new before now = EndsAs job old new end × (now ≡ before)
-Reaches NoMemory job old new before now = now ≡ before
+Reaches NoMemory job old new before now = SameFiles old new × (now ≡ before)
 Reaches FaultFiles job old new before now = LeavesAs job old new × Rises before now
 
 abbrev pub status_of_outcome : Outcome → ℕ

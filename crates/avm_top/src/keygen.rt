@@ -3,8 +3,11 @@ ghost use Rattle.std.specs.Prelude.{◌≡◌, ◌≢◌, ℕ, List, IfOk, IsErr
 ghost use Rattle.avm_model.specs.Keys.{HasTypes};
 ghost use Rattle.avm_outside.specs.Outside.{Rises};
 ghost use Rattle.lms_signer.specs.Views.{key_data};
+ghost use Rattle.avm_top.specs.FileMap.{SameFiles};
 ghost use Rattle.avm_top.specs.Keygen.{KeysMade, KeysCut, key_of_words};
+ghost use Rattle.avm_top.specs.Said.{IsSaid};
 
+use crate::said::{Said, say};
 use crate::writing::write_file;
 use crate::{End, Fault};
 use avm_hash::Digest;
@@ -46,11 +49,13 @@ pub fn keygen<F: Files>(
     key: KeyFile,
     private_name: &str,
     public_name: &str,
-) -> Result<End, Fault>
+) -> Result<Said, Fault>
     requires types { HasTypes (key_data key) }
     requires apart { private_name.now ≢ public_name.now }
-    ensures ends { IfOk result (KeysMade (key_data key) private_name.now public_name.now (F.file files.old) (F.file files.new)) }
+    ensures ends { IfOk result (λ s. KeysMade (key_data key) private_name.now public_name.now (F.file files.old) (F.file files.new) s.end) }
+    ensures line { IfOk result IsSaid }
     ensures left { IsErrOf result Fault.Files → KeysCut (key_data key) private_name.now public_name.now (F.file files.old) (F.file files.new) }
+    ensures no_memory { IsErrOf result Fault.NoMemory → SameFiles (F.file files.old) (F.file files.new) }
     ensures others { (n : List ℕ) → n ≢ private_name.now → n ≢ public_name.now → F.file files.new n ≡ F.file files.old n }
     ensures fault { IsErrOf result Fault.Files → Rises (F.faults files.old) (F.faults files.new) }
     ensures no_fault { result ≢ Err Fault.Files → F.faults files.new ≡ F.faults files.old }
@@ -58,7 +63,8 @@ pub fn keygen<F: Files>(
     let mut private = Room::new(alloc, 61)?;
     put_key(&mut private, &key);
     let public = Signer::new(alloc, key)?.public();
+    let said = say(alloc, End::KeyMade)?;
     write_file(files, private_name, private.bytes())?;
     write_file(files, public_name, &public)?;
-    Ok(End::KeyMade)
+    Ok(said)
 }

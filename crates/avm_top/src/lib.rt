@@ -1,11 +1,18 @@
 //! The program's one call, over files, disks and a sink that are handed in.
 #![tactic(auto)]
 
+mod audit;
+mod check;
 mod ends;
 mod fault;
+mod inputs;
+mod judging;
+mod key_file;
 mod keygen;
+mod limits;
 mod printing;
 mod reading;
+mod said;
 mod top;
 mod writing;
 

@@ -3,16 +3,21 @@ ghost use Rattle.std.specs.Prelude.{◌≡◌, ◌≢◌, ◌⊎◌, ℕ, List, 
 ghost use Rattle.avm_model.specs.Job.{job_of};
 ghost use Rattle.avm_outside.specs.Outside.{Rises};
 ghost use Rattle.avm_top.specs.Ends.{line};
+ghost use Rattle.avm_top.specs.FileMap.{SameFiles};
+ghost use Rattle.avm_top.specs.Said.{IsSaid};
 ghost use Rattle.avm_top.specs.Jobs.{EndsAs, LeavesAs, IsNoneOf, written_by};
 ghost use Rattle.avm_top.specs.Outcomes.{Outcome, Reaches, text_of_outcome, status_of_outcome};
 ghost use Rattle.avm_top.specs.Printing.{Printed};
 
+use crate::audit::audit;
+use crate::check::check;
 use crate::keygen::{key_of, keygen};
-use crate::printing::{line, print};
+use crate::printing::print;
+use crate::said::{Said, say};
 use crate::{End, Fault};
 use avm_outside::{Disk, Files, Sink};
 use avm_script::{BadWords, Job, job};
-use std::alloc::{AllocError, Global};
+use std::alloc::Global;
 
 /// Does what the words ask for, prints its line, and gives its status: 0 done, accepted or stands; 1 a fault was found
 /// and evidence is written; 2 refused by content; 3 the words or an input file refused; 4 a fault of the outside; 5 want
@@ -38,25 +43,24 @@ pub fn avm<F: Files, D: Disk, E: Disk, S: Sink>(
     ensures spare { spare.new ≡ spare.old }
 {
     match run(alloc, words, files) {
-        Ok(end) => match line(alloc, &end) {
-            Ok(line) => print(out, line.as_bytes(), end.status()),
-            Err(AllocError) => print(out, b"no memory\n", 5),
-        },
+        Ok(said) => print(out, said.line.as_bytes(), said.end.status()),
         Err(Fault::NoMemory) => print(out, b"no memory\n", 5),
         Err(Fault::Files) => print(out, b"fault files\n", 4),
     }
 }
 
 // Does the job.
-fn run<F: Files>(alloc: Global, words: &[String], files: &mut F) -> Result<End, Fault>
-    ensures ends { IfOk result (λ end. EndsAs (job_of (map string_bytes words.now)) (F.file files.old) (F.file files.new) end) }
+fn run<F: Files>(alloc: Global, words: &[String], files: &mut F) -> Result<Said, Fault>
+    ensures ends { IfOk result (λ s. EndsAs (job_of (map string_bytes words.now)) (F.file files.old) (F.file files.new) s.end) }
+    ensures line { IfOk result IsSaid }
     ensures left { IsErrOf result Fault.Files → LeavesAs (job_of (map string_bytes words.now)) (F.file files.old) (F.file files.new) }
+    ensures no_memory { IsErrOf result Fault.NoMemory → SameFiles (F.file files.old) (F.file files.new) }
     ensures files { (n : List ℕ) → IsNoneOf (written_by (job_of (map string_bytes words.now))) n → F.file files.new n ≡ F.file files.old n }
     ensures fault { IsErrOf result Fault.Files → Rises (F.faults files.old) (F.faults files.new) }
     ensures no_fault { result ≢ Err Fault.Files → F.faults files.new ≡ F.faults files.old }
 {
     match job(words) {
-        Err(BadWords) => Ok(End::RefusedWords),
+        Err(BadWords) => say(alloc, End::RefusedWords),
         Ok(
             Job::Keygen {
                 height,
@@ -67,6 +71,14 @@ fn run<F: Files>(alloc: Global, words: &[String], files: &mut F) -> Result<End, 
                 public,
             },
         ) => { keygen(alloc, files, key_of(height, w, id, seed), key, public) }
-        Ok(_) => Ok(End::RefusedNotBuilt),
+        Ok(
+            Job::Audit {
+                segment,
+                image,
+                signed,
+            },
+        ) => audit(alloc, files, segment, image, signed),
+        Ok(Job::Check { key, evidence }) => check(alloc, files, key, evidence),
+        Ok(_) => say(alloc, End::RefusedNotBuilt),
     }
 }

@@ -1,0 +1,143 @@
+// The command that judges a segment.
+ghost use Rattle.std.specs.Prelude.{◌≡◌, ◌≢◌, ℕ, List, IfOk, IsErrOf, OnOk, OnErr, Some, option_map};
+ghost use Rattle.avm_model.specs.Audit.{judged_of};
+ghost use Rattle.avm_model.specs.Evidence.{EvidData, evidence_bytes};
+ghost use Rattle.avm_outside.specs.Outside.{Rises, Counts};
+ghost use Rattle.avm_script.specs.View.{signed_view, text_view};
+ghost use Rattle.evid_file.specs.Pieces.{LeavesFront};
+ghost use Rattle.avm_top.specs.Audit.{IsJudged, PlainEnds, SignedEnds, EvidenceCut, AuditEnds, AuditLeaves, audit_writes, LeavesEvidence, JudgedEnd, JudgedCut, evidence_for};
+ghost use Rattle.avm_top.specs.FileMap.{SameFiles};
+ghost use Rattle.avm_top.specs.Jobs.{IsNoneOf};
+ghost use Rattle.avm_top.specs.Said.{IsSaid};
+
+use crate::inputs::{Inputs, read_inputs};
+use crate::judging::verdict_on;
+use crate::limits::read_segment;
+use crate::said::{Said, say};
+use crate::{End, Fault, FileOption};
+use auditor::evidence_of;
+use avm_model::Verdict;
+use avm_outside::{Failed, Files};
+use avm_script::Signed;
+use evid_file::write_evidence;
+use std::alloc::Global;
+
+fn plain_end<F: Files>(alloc: Global, files: &mut F, segment: &str) -> Result<End, Fault>
+    ensures ends { IfOk result (λ end. PlainEnds segment.now (F.file files.old) end) }
+    ensures same { (n : List ℕ) → F.file files.new n ≡ F.file files.old n }
+    ensures fault { IsErrOf result Fault.Files → Rises (F.faults files.old) (F.faults files.new) }
+    ensures no_fault { result ≢ Err Fault.Files → F.faults files.new ≡ F.faults files.old }
+{
+    let Some(segment) = read_segment(alloc, files, segment)? else {
+        return Ok(End::RefusedFile(FileOption::Segment));
+    };
+    let verdict = verdict_on(alloc, &[0; 56], &segment, &[])?;
+    Ok(End::Judged(verdict))
+}
+
+// Reads a segment, and judges it without authenticators.
+fn audit_plain<F: Files>(alloc: Global, files: &mut F, segment: &str) -> Result<Said, Fault>
+    ensures ends { IfOk result (λ s. PlainEnds segment.now (F.file files.old) s.end) }
+    ensures line { IfOk result IsSaid }
+    ensures same { (n : List ℕ) → F.file files.new n ≡ F.file files.old n }
+    ensures fault { IsErrOf result Fault.Files → Rises (F.faults files.old) (F.faults files.new) }
+    ensures no_fault { result ≢ Err Fault.Files → F.faults files.new ≡ F.faults files.old }
+{
+    let end = plain_end(alloc, files, segment)?;
+    say(alloc, end)
+}
+
+// Writes the evidence for a verdict, where there is some.
+fn leave_evidence<F: Files>(
+    files: &mut F,
+    name: &str,
+    key: &[u8; 56],
+    segment: &[u8],
+    auths: &[u8],
+    verdict: &Verdict,
+) -> Result<(), Failed>
+    requires { IsJudged key.now segment.now auths.now verdict.now }
+    ensures written { OnOk result (LeavesEvidence key.now (evidence_for key.now (judged_of segment.now auths.now) verdict.now) (F.file files.old name.now) (F.file files.new name.now)) }
+    ensures failed { OnErr result ((e : EvidData) × (evidence_for key.now (judged_of segment.now auths.now) verdict.now ≡ Some e) × LeavesFront (evidence_bytes e) (F.file files.old name.now) (F.file files.new name.now)) }
+    ensures others { (n : List ℕ) → n ≢ name.now → F.file files.new n ≡ F.file files.old n }
+    ensures faults { Counts (F.faults files.old) (F.faults files.new) result }
+{
+    match evidence_of(key, segment, auths, verdict) {
+        Some(evidence) => write_evidence(files, name, &evidence),
+        None => Ok(()),
+    }
+}
+
+// Gives the verdict, and writes the evidence for it where there is some.
+fn settle<F: Files>(
+    alloc: Global,
+    files: &mut F,
+    name: &str,
+    inputs: &Inputs,
+) -> Result<Said, Fault>
+    ensures ends { IfOk result (λ s. JudgedEnd inputs.now.key inputs.now.segment.items inputs.now.auths.items (F.file files.old name.now) (F.file files.new name.now) s.end) }
+    ensures line { IfOk result IsSaid }
+    ensures left { IsErrOf result Fault.Files → JudgedCut inputs.now.key inputs.now.segment.items inputs.now.auths.items (F.file files.old name.now) (F.file files.new name.now) }
+    ensures no_memory { IsErrOf result Fault.NoMemory → SameFiles (F.file files.old) (F.file files.new) }
+    ensures others { (n : List ℕ) → n ≢ name.now → F.file files.new n ≡ F.file files.old n }
+    ensures fault { IsErrOf result Fault.Files → Rises (F.faults files.old) (F.faults files.new) }
+    ensures no_fault { result ≢ Err Fault.Files → F.faults files.new ≡ F.faults files.old }
+{
+    let verdict = verdict_on(alloc, &inputs.key, &inputs.segment, &inputs.auths)?;
+    let said = say(alloc, End::Judged(verdict))?;
+    leave_evidence(
+        files,
+        name,
+        &inputs.key,
+        &inputs.segment,
+        &inputs.auths,
+        &verdict,
+    )?;
+    Ok(said)
+}
+
+// Reads a segment, a public key and authenticators, judges them, and writes the evidence where the verdict has some.
+fn audit_signed<F: Files>(
+    alloc: Global,
+    files: &mut F,
+    segment: &str,
+    signed: &Signed<'_>,
+) -> Result<Said, Fault>
+    ensures ends { IfOk result (λ s. SignedEnds segment.now (signed_view signed.now) (F.file files.old) (F.file files.new) s.end) }
+    ensures line { IfOk result IsSaid }
+    ensures left { IsErrOf result Fault.Files → EvidenceCut segment.now (signed_view signed.now) (F.file files.old) (F.file files.new) }
+    ensures no_memory { IsErrOf result Fault.NoMemory → SameFiles (F.file files.old) (F.file files.new) }
+    ensures others { (n : List ℕ) → n ≢ signed.now.evidence.now → F.file files.new n ≡ F.file files.old n }
+    ensures fault { IsErrOf result Fault.Files → Rises (F.faults files.old) (F.faults files.new) }
+    ensures no_fault { result ≢ Err Fault.Files → F.faults files.new ≡ F.faults files.old }
+{
+    match read_inputs(alloc, files, segment, signed)? {
+        Ok(inputs) => settle(alloc, files, signed.evidence, &inputs),
+        Err(option) => say(alloc, End::RefusedFile(option)),
+    }
+}
+
+/// Judges a segment, with authenticators where a key is given, and writes evidence of a fault that they cover.
+pub fn audit<F: Files>(
+    alloc: Global,
+    files: &mut F,
+    segment: &str,
+    image: Option<&str>,
+    signed: Option<Signed<'_>>,
+) -> Result<Said, Fault>
+    ensures ends { IfOk result (λ s. AuditEnds segment.now (text_view image.entry) (option_map signed_view signed.entry) (F.file files.old) (F.file files.new) s.end) }
+    ensures line { IfOk result IsSaid }
+    ensures left { IsErrOf result Fault.Files → AuditLeaves segment.now (text_view image.entry) (option_map signed_view signed.entry) (F.file files.old) (F.file files.new) }
+    ensures no_memory { IsErrOf result Fault.NoMemory → SameFiles (F.file files.old) (F.file files.new) }
+    ensures others { (n : List ℕ) → IsNoneOf (audit_writes (option_map signed_view signed.entry)) n → F.file files.new n ≡ F.file files.old n }
+    ensures fault { IsErrOf result Fault.Files → Rises (F.faults files.old) (F.faults files.new) }
+    ensures no_fault { result ≢ Err Fault.Files → F.faults files.new ≡ F.faults files.old }
+{
+    if image.is_some() {
+        return say(alloc, End::RefusedNotBuilt);
+    }
+    match signed {
+        Some(signed) => audit_signed(alloc, files, segment, &signed),
+        None => audit_plain(alloc, files, segment),
+    }
+}
