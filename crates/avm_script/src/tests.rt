@@ -2,8 +2,8 @@
 use super::*;
 use std::alloc::{AllocError, Global};
 
-// Words with a bar between two, and whether they are a job.
-const TABLE: [(&str, bool); 171] = [
+// Words with a bar between two, and whether they are a job. `I` and `S` stand for an id and a seed in whole.
+const TABLE_1: [(&str, bool); 15] = [
     ("replay", false),
     ("Audit|--segment|g", false),
     ("audit", false),
@@ -11,55 +11,43 @@ const TABLE: [(&str, bool); 171] = [
     ("--segment|g|audit", false),
     ("audit |--segment|g", false),
     (
-        "keygen|--height|5|--w|8|--id|000102030405060708090a0b0c0d0e0f|--seed|1111111111111111111111111111111111111111111111111111111111111111|--key|k|--public|p",
+        "keygen|--height|5|--w|8|--id|I|--seed|S|--key|k|--public|p",
         true,
     ),
     (
-        "keygen|--public|p|--key|k|--seed|1111111111111111111111111111111111111111111111111111111111111111|--id|000102030405060708090a0b0c0d0e0f|--w|8|--height|5",
+        "keygen|--public|p|--key|k|--seed|S|--id|I|--w|8|--height|5",
         true,
     ),
+    ("keygen|--w|8|--id|I|--seed|S|--key|k|--public|p", false),
     (
-        "keygen|--w|8|--id|000102030405060708090a0b0c0d0e0f|--seed|1111111111111111111111111111111111111111111111111111111111111111|--key|k|--public|p",
+        "keygen|--height|5|--id|I|--seed|S|--key|k|--public|p",
+        false,
+    ),
+    ("keygen|--height|5|--w|8|--seed|S|--key|k|--public|p", false),
+    ("keygen|--height|5|--w|8|--id|I|--key|k|--public|p", false),
+    ("keygen|--height|5|--w|8|--id|I|--seed|S|--public|p", false),
+    ("keygen|--height|5|--w|8|--id|I|--seed|S|--key|k", false),
+    (
+        "keygen|--height|5|--w|8|--id|I|--seed|S|--key|k|--public|p|--height|5",
+        false,
+    ),
+];
+
+const TABLE_2: [(&str, bool); 15] = [
+    (
+        "keygen|--height|5|--w|8|--id|I|--seed|S|--key|k|--public|p|--unknown|x",
         false,
     ),
     (
-        "keygen|--height|5|--id|000102030405060708090a0b0c0d0e0f|--seed|1111111111111111111111111111111111111111111111111111111111111111|--key|k|--public|p",
+        "keygen|--height|5|--w|8|--id|I|--seed|S|--key|k|--public|",
         false,
     ),
     (
-        "keygen|--height|5|--w|8|--seed|1111111111111111111111111111111111111111111111111111111111111111|--key|k|--public|p",
+        "keygen|--height|5|--w|8|--id|I|--seed|S|--key|k|--public",
         false,
     ),
     (
-        "keygen|--height|5|--w|8|--id|000102030405060708090a0b0c0d0e0f|--key|k|--public|p",
-        false,
-    ),
-    (
-        "keygen|--height|5|--w|8|--id|000102030405060708090a0b0c0d0e0f|--seed|1111111111111111111111111111111111111111111111111111111111111111|--public|p",
-        false,
-    ),
-    (
-        "keygen|--height|5|--w|8|--id|000102030405060708090a0b0c0d0e0f|--seed|1111111111111111111111111111111111111111111111111111111111111111|--key|k",
-        false,
-    ),
-    (
-        "keygen|--height|5|--w|8|--id|000102030405060708090a0b0c0d0e0f|--seed|1111111111111111111111111111111111111111111111111111111111111111|--key|k|--public|p|--height|5",
-        false,
-    ),
-    (
-        "keygen|--height|5|--w|8|--id|000102030405060708090a0b0c0d0e0f|--seed|1111111111111111111111111111111111111111111111111111111111111111|--key|k|--public|p|--unknown|x",
-        false,
-    ),
-    (
-        "keygen|--height|5|--w|8|--id|000102030405060708090a0b0c0d0e0f|--seed|1111111111111111111111111111111111111111111111111111111111111111|--key|k|--public|",
-        false,
-    ),
-    (
-        "keygen|--height|5|--w|8|--id|000102030405060708090a0b0c0d0e0f|--seed|1111111111111111111111111111111111111111111111111111111111111111|--key|k|--public",
-        false,
-    ),
-    (
-        "keygen|--height|5|--w|8|--id|000102030405060708090a0b0c0d0e0f|--seed|1111111111111111111111111111111111111111111111111111111111111111|--key|k|--public|p|--store",
+        "keygen|--height|5|--w|8|--id|I|--seed|S|--key|k|--public|p|--store",
         false,
     ),
     ("format|--store|s|--key|k|--config|c|--image|i", true),
@@ -82,6 +70,9 @@ const TABLE: [(&str, bool); 171] = [
         "format|--store|s|--key|k|--config|c|--image|i|--store",
         false,
     ),
+];
+
+const TABLE_3: [(&str, bool); 15] = [
     (
         "record|--store|s|--key|k|--script|t|--packets|p|--console|c|--auths|a",
         true,
@@ -136,6 +127,9 @@ const TABLE: [(&str, bool); 171] = [
     ),
     ("export|--store|s|--from|1|--to|2|--segment|g", true),
     ("export|--segment|g|--to|2|--from|1|--store|s", true),
+];
+
+const TABLE_4: [(&str, bool); 15] = [
     ("export|--from|1|--to|2|--segment|g", false),
     ("export|--store|s|--to|2|--segment|g", false),
     ("export|--store|s|--from|1|--segment|g", false),
@@ -166,6 +160,9 @@ const TABLE: [(&str, bool); 171] = [
     ("audit|--segment|g|--key|k|--auths|a|--evidence|e", true),
     ("audit|--segment|g|--image|i|--auths|a|--evidence|e", false),
     ("audit|--segment|g|--image|i|--key|k|--evidence|e", false),
+];
+
+const TABLE_5: [(&str, bool); 15] = [
     ("audit|--segment|g|--image|i|--key|k|--auths|a", false),
     (
         "audit|--segment|g|--image|i|--key|k|--auths|a|--evidence|e|--segment|g",
@@ -196,6 +193,9 @@ const TABLE: [(&str, bool); 171] = [
     ("check|--key|k|--evidence|", false),
     ("check|--key|k|--evidence", false),
     ("check|--key|k|--evidence|e|--store", false),
+];
+
+const TABLE_6: [(&str, bool); 15] = [
     ("rebut|--store|s|--evidence|e", true),
     ("rebut|--evidence|e|--store|s", true),
     ("rebut|--evidence|e", false),
@@ -211,6 +211,9 @@ const TABLE: [(&str, bool); 171] = [
     ("list|--store|s|--unknown|x", false),
     ("list|--store|", false),
     ("list|--store", false),
+];
+
+const TABLE_7: [(&str, bool); 15] = [
     ("list|--store|s|--store", false),
     ("sample|--seed|7", true),
     ("sample", false),
@@ -220,7 +223,7 @@ const TABLE: [(&str, bool); 171] = [
     ("sample|--seed", false),
     ("sample|--seed|7|--store", false),
     (
-        "keygen|--height|5|--w|8|--id|000102030405060708090a0b0c0d0e0f|--seed|1111111111111111111111111111111111111111111111111111111111111111|--key|same|--public|same",
+        "keygen|--height|5|--w|8|--id|I|--seed|S|--key|same|--public|same",
         false,
     ),
     ("format|--store|same|--key|same|--config|c|--image|i", false),
@@ -235,6 +238,9 @@ const TABLE: [(&str, bool); 171] = [
         "record|--store|same|--key|k|--script|t|--packets|same|--console|c|--auths|a",
         false,
     ),
+];
+
+const TABLE_8: [(&str, bool); 15] = [
     (
         "record|--store|same|--key|k|--script|t|--packets|p|--console|c|--auths|same",
         false,
@@ -289,6 +295,9 @@ const TABLE: [(&str, bool); 171] = [
         false,
     ),
     ("check|--key|same|--evidence|same", false),
+];
+
+const TABLE_9: [(&str, bool); 15] = [
     ("rebut|--store|same|--evidence|same", false),
     ("export|--store|s|--from|0|--to|2|--segment|g", true),
     ("export|--store|s|--from|00|--to|2|--segment|g", false),
@@ -313,108 +322,117 @@ const TABLE: [(&str, bool); 171] = [
     ("export|--store|s|--from||--to|2|--segment|g", false),
     ("sample|--seed|0", true),
     ("sample|--seed|00", false),
+];
+
+const TABLE_10: [(&str, bool); 15] = [
     ("sample|--seed|4294967295", true),
     ("sample|--seed|4294967296", false),
     ("sample|--seed|+7", false),
     (
-        "keygen|--height|20|--w|8|--id|000102030405060708090a0b0c0d0e0f|--seed|1111111111111111111111111111111111111111111111111111111111111111|--key|k|--public|p",
+        "keygen|--height|20|--w|8|--id|I|--seed|S|--key|k|--public|p",
         false,
     ),
     (
-        "keygen|--height|5.|--w|8|--id|000102030405060708090a0b0c0d0e0f|--seed|1111111111111111111111111111111111111111111111111111111111111111|--key|k|--public|p",
+        "keygen|--height|5.|--w|8|--id|I|--seed|S|--key|k|--public|p",
         false,
     ),
     (
-        "keygen|--height|05|--w|8|--id|000102030405060708090a0b0c0d0e0f|--seed|1111111111111111111111111111111111111111111111111111111111111111|--key|k|--public|p",
+        "keygen|--height|05|--w|8|--id|I|--seed|S|--key|k|--public|p",
         false,
     ),
     (
-        "keygen|--height|1|--w|8|--id|000102030405060708090a0b0c0d0e0f|--seed|1111111111111111111111111111111111111111111111111111111111111111|--key|k|--public|p",
+        "keygen|--height|1|--w|8|--id|I|--seed|S|--key|k|--public|p",
         false,
     ),
     (
-        "keygen|--height|15|--w|8|--id|000102030405060708090a0b0c0d0e0f|--seed|1111111111111111111111111111111111111111111111111111111111111111|--key|k|--public|p",
+        "keygen|--height|15|--w|8|--id|I|--seed|S|--key|k|--public|p",
         true,
     ),
     (
-        "keygen|--height|10|--w|8|--id|000102030405060708090a0b0c0d0e0f|--seed|1111111111111111111111111111111111111111111111111111111111111111|--key|k|--public|p",
+        "keygen|--height|10|--w|8|--id|I|--seed|S|--key|k|--public|p",
         true,
     ),
     (
-        "keygen|--height|25|--w|8|--id|000102030405060708090a0b0c0d0e0f|--seed|1111111111111111111111111111111111111111111111111111111111111111|--key|k|--public|p",
+        "keygen|--height|25|--w|8|--id|I|--seed|S|--key|k|--public|p",
         false,
     ),
     (
-        "keygen|--height|5|--w|1|--id|000102030405060708090a0b0c0d0e0f|--seed|1111111111111111111111111111111111111111111111111111111111111111|--key|k|--public|p",
+        "keygen|--height|5|--w|1|--id|I|--seed|S|--key|k|--public|p",
         true,
     ),
     (
-        "keygen|--height|5|--w|2|--id|000102030405060708090a0b0c0d0e0f|--seed|1111111111111111111111111111111111111111111111111111111111111111|--key|k|--public|p",
+        "keygen|--height|5|--w|2|--id|I|--seed|S|--key|k|--public|p",
         true,
     ),
     (
-        "keygen|--height|5|--w|4|--id|000102030405060708090a0b0c0d0e0f|--seed|1111111111111111111111111111111111111111111111111111111111111111|--key|k|--public|p",
+        "keygen|--height|5|--w|4|--id|I|--seed|S|--key|k|--public|p",
         true,
     ),
     (
-        "keygen|--height|5|--w|3|--id|000102030405060708090a0b0c0d0e0f|--seed|1111111111111111111111111111111111111111111111111111111111111111|--key|k|--public|p",
+        "keygen|--height|5|--w|3|--id|I|--seed|S|--key|k|--public|p",
         false,
     ),
     (
-        "keygen|--height|5|--w|16|--id|000102030405060708090a0b0c0d0e0f|--seed|1111111111111111111111111111111111111111111111111111111111111111|--key|k|--public|p",
+        "keygen|--height|5|--w|16|--id|I|--seed|S|--key|k|--public|p",
+        false,
+    ),
+];
+
+const TABLE_11: [(&str, bool); 15] = [
+    (
+        "keygen|--height|5|--w|08|--id|I|--seed|S|--key|k|--public|p",
         false,
     ),
     (
-        "keygen|--height|5|--w|08|--id|000102030405060708090a0b0c0d0e0f|--seed|1111111111111111111111111111111111111111111111111111111111111111|--key|k|--public|p",
+        "keygen|--height|5|--w|8|--id|000102030405060708090a0b0c0d0e|--seed|S|--key|k|--public|p",
         false,
     ),
     (
-        "keygen|--height|5|--w|8|--id|000102030405060708090a0b0c0d0e|--seed|1111111111111111111111111111111111111111111111111111111111111111|--key|k|--public|p",
+        "keygen|--height|5|--w|8|--id|000102030405060708090a0b0c0d0e0f00|--seed|S|--key|k|--public|p",
         false,
     ),
     (
-        "keygen|--height|5|--w|8|--id|000102030405060708090a0b0c0d0e0f00|--seed|1111111111111111111111111111111111111111111111111111111111111111|--key|k|--public|p",
+        "keygen|--height|5|--w|8|--id|000102030405060708090a0b0c0d0e0|--seed|S|--key|k|--public|p",
         false,
     ),
     (
-        "keygen|--height|5|--w|8|--id|000102030405060708090a0b0c0d0e0|--seed|1111111111111111111111111111111111111111111111111111111111111111|--key|k|--public|p",
-        false,
-    ),
-    (
-        "keygen|--height|5|--w|8|--id|000102030405060708090A0B0C0D0E0F|--seed|1111111111111111111111111111111111111111111111111111111111111111|--key|k|--public|p",
+        "keygen|--height|5|--w|8|--id|000102030405060708090A0B0C0D0E0F|--seed|S|--key|k|--public|p",
         true,
     ),
     (
-        "keygen|--height|5|--w|8|--id|g00102030405060708090a0b0c0d0e0f|--seed|1111111111111111111111111111111111111111111111111111111111111111|--key|k|--public|p",
+        "keygen|--height|5|--w|8|--id|g00102030405060708090a0b0c0d0e0f|--seed|S|--key|k|--public|p",
         false,
     ),
     (
-        "keygen|--height|5|--w|8|--id|0x0102030405060708090a0b0c0d0e0f|--seed|1111111111111111111111111111111111111111111111111111111111111111|--key|k|--public|p",
+        "keygen|--height|5|--w|8|--id|0x0102030405060708090a0b0c0d0e0f|--seed|S|--key|k|--public|p",
         false,
     ),
     (
-        "keygen|--height|5|--w|8|--id|000102030405060708090a0b0c0d0e0f|--seed|11111111111111111111111111111111111111111111111111111111111111|--key|k|--public|p",
+        "keygen|--height|5|--w|8|--id|I|--seed|11111111111111111111111111111111111111111111111111111111111111|--key|k|--public|p",
         false,
     ),
     (
-        "keygen|--height|5|--w|8|--id|000102030405060708090a0b0c0d0e0f|--seed|111111111111111111111111111111111111111111111111111111111111111111|--key|k|--public|p",
+        "keygen|--height|5|--w|8|--id|I|--seed|111111111111111111111111111111111111111111111111111111111111111111|--key|k|--public|p",
         false,
     ),
     (
-        "keygen|--height|5|--w|8|--id|000102030405060708090a0b0c0d0e0f|--seed|111111111111111111111111111111111111111111111111111111111111111|--key|k|--public|p",
+        "keygen|--height|5|--w|8|--id|I|--seed|111111111111111111111111111111111111111111111111111111111111111|--key|k|--public|p",
         false,
     ),
     (
-        "keygen|--height|5|--w|8|--id|000102030405060708090a0b0c0d0e0f|--seed|FFFFFFFFFFFFFFFFFFFFFFFFFFFFFFFFFFFFFFFFFFFFFFFFFFFFFFFFFFFFFFFF|--key|k|--public|p",
+        "keygen|--height|5|--w|8|--id|I|--seed|FFFFFFFFFFFFFFFFFFFFFFFFFFFFFFFFFFFFFFFFFFFFFFFFFFFFFFFFFFFFFFFF|--key|k|--public|p",
         true,
     ),
     (
-        "keygen|--height|5|--w|8|--id|000102030405060708090a0b0c0d0e0f|--seed|+111111111111111111111111111111111111111111111111111111111111111|--key|k|--public|p",
+        "keygen|--height|5|--w|8|--id|I|--seed|+111111111111111111111111111111111111111111111111111111111111111|--key|k|--public|p",
         false,
     ),
     ("audit|--segment|g", true),
     ("audit|--segment|g|--image|i", true),
     ("audit|--segment|g|--key|k", false),
+];
+
+const TABLE_12: [(&str, bool); 6] = [
     ("audit|--segment|g|--auths|a|--evidence|e", false),
     ("audit|--segment|g|--key|k|--auths|a", false),
     ("audit|--segment|a|--segment|b", false),
@@ -423,20 +441,96 @@ const TABLE: [(&str, bool); 171] = [
     ("retain|--store|s|--into|t|--at|1", false),
 ];
 
+const ID: &str = "000102030405060708090a0b0c0d0e0f";
+
+const SEED: &str = "1111111111111111111111111111111111111111111111111111111111111111";
+
 fn words(alloc: Global, text: &str) -> Result<Vec<String>, AllocError> {
     let mut words = Vec::new(alloc);
     for part in text.split('|') {
-        words.push(String::from_str(alloc, part)?)?;
+        let word = match part {
+            "I" => ID,
+            "S" => SEED,
+            other => other,
+        };
+        words.push(String::from_str(alloc, word)?)?;
     }
     Ok(words)
 }
 
+// Whether each row's words are a job where it says so, and only there.
+fn are_judged(alloc: Global, table: &[(&str, bool)]) -> Result<bool, AllocError> {
+    for (text, is_job) in table {
+        let words = words(alloc, text)?;
+        if job(words.as_slice()).is_ok() != *is_job {
+            return Ok(false);
+        }
+    }
+    Ok(true)
+}
+
+fn table_1(alloc: Global) -> Result<bool, AllocError> {
+    are_judged(alloc, &TABLE_1)
+}
+
+fn table_2(alloc: Global) -> Result<bool, AllocError> {
+    are_judged(alloc, &TABLE_2)
+}
+
+fn table_3(alloc: Global) -> Result<bool, AllocError> {
+    are_judged(alloc, &TABLE_3)
+}
+
+fn table_4(alloc: Global) -> Result<bool, AllocError> {
+    are_judged(alloc, &TABLE_4)
+}
+
+fn table_5(alloc: Global) -> Result<bool, AllocError> {
+    are_judged(alloc, &TABLE_5)
+}
+
+fn table_6(alloc: Global) -> Result<bool, AllocError> {
+    are_judged(alloc, &TABLE_6)
+}
+
+fn table_7(alloc: Global) -> Result<bool, AllocError> {
+    are_judged(alloc, &TABLE_7)
+}
+
+fn table_8(alloc: Global) -> Result<bool, AllocError> {
+    are_judged(alloc, &TABLE_8)
+}
+
+fn table_9(alloc: Global) -> Result<bool, AllocError> {
+    are_judged(alloc, &TABLE_9)
+}
+
+fn table_10(alloc: Global) -> Result<bool, AllocError> {
+    are_judged(alloc, &TABLE_10)
+}
+
+fn table_11(alloc: Global) -> Result<bool, AllocError> {
+    are_judged(alloc, &TABLE_11)
+}
+
+fn table_12(alloc: Global) -> Result<bool, AllocError> {
+    are_judged(alloc, &TABLE_12)
+}
+
 #[test]
 fn words_are_jobs(rt: HostRuntime) -> Result<(), AllocError> {
-    for (text, is_job) in TABLE {
-        let words = words(rt.alloc(), text)?;
-        assert!(rt; job(words.as_slice()).is_ok() == is_job);
-    }
+    assert!(rt; table_1(rt.alloc())?);
+    assert!(rt; table_2(rt.alloc())?);
+    assert!(rt; table_3(rt.alloc())?);
+    assert!(rt; table_4(rt.alloc())?);
+    assert!(rt; table_5(rt.alloc())?);
+    assert!(rt; table_6(rt.alloc())?);
+    assert!(rt; table_7(rt.alloc())?);
+    assert!(rt; table_8(rt.alloc())?);
+    assert!(rt; table_9(rt.alloc())?);
+    assert!(rt; table_10(rt.alloc())?);
+    assert!(rt; table_11(rt.alloc())?);
+    assert!(rt; table_12(rt.alloc())?);
     let none: Vec<String> = Vec::new(rt.alloc());
     assert!(rt; job(none.as_slice()).is_err());
     Ok(())
