@@ -55,8 +55,8 @@ plain_some segment old got v read judged = (read.0, read.1, some_segment read.0 
 judged_end : (key s a t b : List ℕ) (old mid new : Option (Option (List ℕ))) (e : End) → judged_of s a ≡ judged_of t b → mid ≡ old → JudgedEnd key s a mid new e → JudgedEnd key t b old new e
 judged_end key s a t b old mid new e same files judged =
     let v = judged.0 in
-    let leaves : LeavesEvidence key (evidence_for key (judged_of t b) v) mid new = subst (λ (o : Option Judged). LeavesEvidence key (evidence_for key o v) mid new) same judged.3 in
-    (v, judged_same key s a t b v same judged.1, judged.2, subst (λ (m : Option (Option (List ℕ))). LeavesEvidence key (evidence_for key (judged_of t b) v) m new) files leaves)
+    let leaves : LeavesEvidence key v (evidence_for key (judged_of t b) v) mid new = subst (λ (o : Option Judged). LeavesEvidence key v (evidence_for key o v) mid new) same judged.3 in
+    (v, judged_same key s a t b v same judged.1, judged.2, subst (λ (m : Option (Option (List ℕ))). LeavesEvidence key v (evidence_for key (judged_of t b) v) m new) files leaves)
 
 -- the end of a settled audit, by the files that were read
 pub signed_ends : (segment : List ℕ) (names : SignedData) (old mid new : FileMap) (i : Inputs) (r : Result Said Fault) → AreRead segment names old (Ok i) → SameFiles old mid → IfOk r (λ s. JudgedEnd i.key i.segment.items i.auths.items (mid names.evidence) (new names.evidence) s.end) → IfOk r (λ s. SignedEnds segment names old new s.end)

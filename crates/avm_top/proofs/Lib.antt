@@ -3,3 +3,4 @@ pub mod Cuts
 pub mod Names
 pub mod Judged
 pub mod Checked
+pub mod Meanings

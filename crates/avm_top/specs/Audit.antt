@@ -1,10 +1,10 @@
 -- The command that judges a segment.
-use Rattle.std.specs.Prelude.{◌≡◌, ◌⊎◌, ℕ, List, [], ◌∷◌, Option, None, Some, replicate, if◌then◌else◌}
+use Rattle.std.specs.Prelude.{◌≡◌, ◌⊎◌, ℕ, List, [], ◌∷◌, Option, None, Some, true, false, replicate, if◌then◌else◌}
 use Rattle.avm_model.specs.Keys.{public_file}
 use Rattle.avm_model.specs.Job.{SignedData}
 use Rattle.avm_model.specs.Audit.{Judged, judged_of, IsVerdict, IsAcceptance}
 use Rattle.avm_model.specs.Evidence.{EvidData, evidence_bytes}
-use Rattle.avm_model.specs.Holds.{evidence, Stands}
+use Rattle.avm_model.specs.Holds.{evidence, has_evidence, Stands}
 use Rattle.avm_model.specs.declared.judged.Verdict.{Verdict}
 use Rattle.evid_file.specs.Pieces.{Written, LeavesFront}
 use Rattle.avm_top.specs.declared.ends.FileOption.{FileOption}
@@ -46,14 +46,14 @@ abbrev pub evidence_for : List ℕ → Option Judged → Verdict → Option Evid
 evidence_for key None v = None
 evidence_for key (Some d) v = evidence key d v
 
--- the evidence file holds the evidence, which stands under the key; without evidence it is as it was
-abbrev pub LeavesEvidence : List ℕ → Option EvidData → Option (Option (List ℕ)) → Option (Option (List ℕ)) → Type 0
-LeavesEvidence key None old new = new ≡ old
-LeavesEvidence key (Some e) old new = Written (evidence_bytes e) old new × Stands key (evidence_bytes e)
+-- the evidence file holds the evidence, which stands under the key; a verdict without evidence leaves it as it was
+abbrev pub LeavesEvidence : List ℕ → Verdict → Option EvidData → Option (Option (List ℕ)) → Option (Option (List ℕ)) → Type 0
+LeavesEvidence key v None old new = (has_evidence v ≡ false) × (new ≡ old)
+LeavesEvidence key v (Some e) old new = (has_evidence v ≡ true) × Written (evidence_bytes e) old new × Stands key (evidence_bytes e)
 
 abbrev pub JudgedEnd : List ℕ → List ℕ → List ℕ → Option (Option (List ℕ)) → Option (Option (List ℕ)) → End → Type 0
 JudgedEnd key segment auths old new e =
-    (v : Verdict) × IsJudged key segment auths v × (e ≡ end.Judged v) × LeavesEvidence key (evidence_for key (judged_of segment auths) v) old new
+    (v : Verdict) × IsJudged key segment auths v × (e ≡ end.Judged v) × LeavesEvidence key v (evidence_for key (judged_of segment auths) v) old new
 
 -- the three files as they are found
 pub record Found : Type 0 where

@@ -10,3 +10,4 @@ pub mod Inputs
 pub mod Check
 pub mod Jobs
 pub mod Outcomes
+pub mod Meaning

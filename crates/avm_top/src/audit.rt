@@ -57,7 +57,7 @@ fn leave_evidence<F: Files>(
     verdict: &Verdict,
 ) -> Result<(), Failed>
     requires { IsJudged key.now segment.now auths.now verdict.now }
-    ensures written { OnOk result (LeavesEvidence key.now (evidence_for key.now (judged_of segment.now auths.now) verdict.now) (F.file files.old name.now) (F.file files.new name.now)) }
+    ensures written { OnOk result (LeavesEvidence key.now verdict.now (evidence_for key.now (judged_of segment.now auths.now) verdict.now) (F.file files.old name.now) (F.file files.new name.now)) }
     ensures failed { OnErr result ((e : EvidData) × (evidence_for key.now (judged_of segment.now auths.now) verdict.now ≡ Some e) × LeavesFront (evidence_bytes e) (F.file files.old name.now) (F.file files.new name.now)) }
     ensures others { (n : List ℕ) → n ≢ name.now → F.file files.new n ≡ F.file files.old n }
     ensures faults { Counts (F.faults files.old) (F.faults files.new) result }

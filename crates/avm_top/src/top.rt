@@ -1,11 +1,12 @@
 // The top call: what the words ask for is done, and one line is printed.
-ghost use Rattle.std.specs.Prelude.{◌≡◌, ◌≢◌, ◌⊎◌, ℕ, List, map, IfOk, IsErrOf, string_bytes};
-ghost use Rattle.avm_model.specs.Job.{job_of};
+ghost use Rattle.std.specs.Prelude.{◌≡◌, ◌≢◌, ◌⊎◌, ℕ, List, Option, None, Some, map, IfOk, IsErrOf, string_bytes};
+ghost use Rattle.avm_model.specs.Job.{SignedData, audit as audit_job, check as check_job, job_of};
 ghost use Rattle.avm_outside.specs.Outside.{Rises};
 ghost use Rattle.avm_top.specs.Ends.{line};
 ghost use Rattle.avm_top.specs.FileMap.{SameFiles};
 ghost use Rattle.avm_top.specs.Said.{IsSaid};
 ghost use Rattle.avm_top.specs.Jobs.{EndsAs, LeavesAs, IsNoneOf, written_by};
+ghost use Rattle.avm_top.specs.Meaning.{AuditMeans, CheckMeans};
 ghost use Rattle.avm_top.specs.Outcomes.{Outcome, Reaches, text_of_outcome, status_of_outcome};
 ghost use Rattle.avm_top.specs.Printing.{Printed};
 
@@ -38,9 +39,26 @@ pub fn avm<F: Files, D: Disk, E: Disk, S: Sink>(
     ensures not_four { result ≢ 4 → (F.faults files.new ≡ F.faults files.old) × (S.faults out.new ≡ S.faults out.old) }
     // no other file is changed
     ensures files { (n : List ℕ) → IsNoneOf (written_by (job_of (map string_bytes words.now))) n → F.file files.new n ≡ F.file files.old n }
+    // what 0 and 1 mean
+    ensures audit { (segment : List ℕ) (signed : Option SignedData) → Some (audit_job segment None signed) ≡ job_of (map string_bytes words.now) → AuditMeans segment signed (F.file files.old) (F.file files.new) result }
+    ensures check { (key evidence : List ℕ) → Some (check_job key evidence) ≡ job_of (map string_bytes words.now) → CheckMeans key evidence (F.file files.old) result }
     // no call on the disk or the spare
     ensures disk { disk.new ≡ disk.old }
     ensures spare { spare.new ≡ spare.old }
+{
+    act(alloc, words, files, out)
+}
+
+// Does the job and prints its line.
+fn act<F: Files, S: Sink>(alloc: Global, words: &[String], files: &mut F, out: &mut S) -> u8
+    // an outcome that the words and the files give, with its line and status
+    ensures ends { (o : Outcome) × Reaches o (job_of (map string_bytes words.now)) (F.file files.old) (F.file files.new) (F.faults files.old) (F.faults files.new)
+        × Printed (line (text_of_outcome o)) (status_of_outcome o) (S.faults out.old) (S.faults out.new) (S.written out.old) (S.written out.new) result }
+    // 4 exactly where a count rose
+    ensures four { result ≡ 4 → Rises (F.faults files.old) (F.faults files.new) ⊎ Rises (S.faults out.old) (S.faults out.new) }
+    ensures not_four { result ≢ 4 → (F.faults files.new ≡ F.faults files.old) × (S.faults out.new ≡ S.faults out.old) }
+    // no other file is changed
+    ensures files { (n : List ℕ) → IsNoneOf (written_by (job_of (map string_bytes words.now))) n → F.file files.new n ≡ F.file files.old n }
 {
     match run(alloc, words, files) {
         Ok(said) => print(out, said.line.as_bytes(), said.end.status()),

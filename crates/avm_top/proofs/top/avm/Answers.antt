@@ -1,11 +1,10 @@
-use Rattle.std.proofs.Common.{◌≡◌, ◌∙◌, rules}
-use Rattle.avm_top.specs.Ends.{status_of, text_of, line}
-use Rattle.avm_top.specs.Outcomes.{Ended}
+use Rattle.avm_top.proofs.Meanings.{status_is, audit_means, check_means}
 use Rattle.avm_top.proofs.top.avm.Goals as goal
 
-pub returns-in-Ok-clause-ends : goal.returns-in-Ok-clause-ends
-returns-in-Ok-clause-ends g c =
-    let bytes : c.as_bytes.result.now ≡ line (text_of c.in-Ok.said.end) = c.as_bytes.ensures.value ∙ c.in-Ok.ensures.line in
-    let status : c.status.result ≡ status_of c.in-Ok.said.end = c.status.ensures in
-    let files : g.F.Files.faults c.run.new.files ≡ g.F.Files.faults c.args.files.now = search rules in
-    (Ended c.in-Ok.said.end, (c.in-Ok.ensures.ends, files), rw (bytes, status) at c.print.ensures)
+pub returns-clause-audit : goal.returns-clause-audit
+returns-clause-audit g c =
+    λ segment signed is. audit_means segment signed _ _ _ _ _ c.act.result c.act.ensures.ends.0 is c.act.ensures.ends.1 (status_is _ _ _ _ _ _ c.act.result c.act.ensures.ends.2)
+
+pub returns-clause-check : goal.returns-clause-check
+returns-clause-check g c =
+    λ key evidence is. check_means key evidence _ _ _ _ _ c.act.result c.act.ensures.ends.0 is c.act.ensures.ends.1 (status_is _ _ _ _ _ _ c.act.result c.act.ensures.ends.2)
