@@ -32,18 +32,18 @@ use Rattle.avm_top.specs.Meaning.{Tells, AreGiven, IsShown, EvidenceShown, Audit
 -- ---- from the outcome to the end
 
 pub status_is : (bytes : List ℕ) (status before now : ℕ) (old new : Option (List ℕ)) (result : ℕ) → Printed bytes status before now old new result → (result ≡ status) ⊎ (result ≡ 4)
-status_is bytes status before now old new result printed = elim printed [inl whole ↦ inl whole.0 | inr cut ↦ inr cut.0]
+status_is bytes status before now old new result printed = elim printed [ inl whole ↦ inl whole.0 | inr cut ↦ inr cut.0 ]
 
 abbrev IsEnded : Option JobData → FileMap → FileMap → ℕ → Type 0
 IsEnded job old new n = (e : End) × EndsAs job old new e × (status_of e ≡ n)
 
 ended : (job : Option JobData) (old new : FileMap) (before now result n : ℕ) (o : Outcome) → Reaches o job old new before now → (result ≡ status_of_outcome o) ⊎ (result ≡ 4) → result ≡ n → n ≢ 4 → n ≢ 5 → IsEnded job old new n
 ended job old new before now result n (Ended e) reaches status is not4 not5 =
-    elim status [inl s ↦ (e, reaches.0, sym s ∙ is) | inr four ↦ absurd (not4 (sym is ∙ four))]
+    elim status [ inl s ↦ (e, reaches.0, sym s ∙ is) | inr four ↦ absurd (not4 (sym is ∙ four)) ]
 ended job old new before now result n NoMemory reaches status is not4 not5 =
-    elim status [inl five ↦ absurd (not5 (sym is ∙ five)) | inr four ↦ absurd (not4 (sym is ∙ four))]
+    elim status [ inl five ↦ absurd (not5 (sym is ∙ five)) | inr four ↦ absurd (not4 (sym is ∙ four)) ]
 ended job old new before now result n FaultFiles reaches status is not4 not5 =
-    elim status [inl four ↦ absurd (not4 (sym is ∙ four)) | inr four ↦ absurd (not4 (sym is ∙ four))]
+    elim status [ inl four ↦ absurd (not4 (sym is ∙ four)) | inr four ↦ absurd (not4 (sym is ∙ four)) ]
 
 -- ---- verdicts by their statuses
 
@@ -152,11 +152,12 @@ are_there (Some s) (Some k) None is = absurd (never_none (public_file k) is)
 are_there (Some s) (Some k) (Some a) is = (refl, refl, only_true (public_file k) None is, refl)
 
 are_given : (segment : List ℕ) (names : SignedData) (old : FileMap) (f : Found) → AreFound segment names old f → AreThere f.segment f.key f.auths → AreGiven Finds segment (Some names) old (bytes_of f.key) (bytes_of f.segment) (bytes_of f.auths)
-are_given segment names old f found there =
-    (subst (λ (o : Option (List ℕ)). Finds (old segment) o) there.0 found.0,
-    subst (λ (o : Option (List ℕ)). Finds (old names.key) o) there.1 found.1,
-    there.2,
-    subst (λ (o : Option (List ℕ)). Finds (old names.auths) o) there.3 found.2)
+are_given segment names old f found there = (
+  subst (λ (o : Option (List ℕ)). Finds (old segment) o) there.0 found.0,
+  subst (λ (o : Option (List ℕ)). Finds (old names.key) o) there.1 found.1,
+  there.2,
+  subst (λ (o : Option (List ℕ)). Finds (old names.auths) o) there.3 found.2,
+)
 
 signed_zero : (segment : List ℕ) (names : SignedData) (old new : FileMap) (e : End) → SignedEnds segment names old new e → status_of e ≡ 0 → (key : List ℕ) × (s : List ℕ) × (a : List ℕ) × AreGiven Finds segment (Some names) old key s a × IsAcceptedBytes key s a
 signed_zero segment names old new e ends zero =
@@ -241,13 +242,13 @@ both_there (Some k) (Some b) is = (refl, only_true (public_file k) None is, refl
 stands_zero : (key bytes : List ℕ) (e : End) → StandsOrNot key bytes e → status_of e ≡ 0 → Stands key bytes
 stands_zero key bytes e told zero =
     elim told [
-      inl good ↦ good.1
-    | inr bad ↦ let two : status_of e ≡ 2 = ap status_of bad.0 in absurd (omega (arith, two, zero))
+      | inl good ↦ good.1
+      | inr bad ↦ let two : status_of e ≡ 2 = ap status_of bad.0 in absurd (omega (arith, two, zero))
     ]
 
 zero_stands : (key bytes : List ℕ) (e : End) → StandsOrNot key bytes e → Stands key bytes → status_of e ≡ 0
 zero_stands key bytes e told stands =
-    elim told [inl good ↦ ap status_of good.0 | inr bad ↦ absurd (bad.1 stands)]
+    elim told [ inl good ↦ ap status_of good.0 | inr bad ↦ absurd (bad.1 stands) ]
 
 check_zero : (key evidence : List ℕ) (old : FileMap) (e : End) → CheckEnds key evidence old e → status_of e ≡ 0 → (k : List ℕ) × (bytes : List ℕ) × Finds (old key) (Some k) × Finds (old evidence) (Some bytes) × (public_file k ≡ true) × Stands k bytes
 check_zero key evidence old e ends zero =
