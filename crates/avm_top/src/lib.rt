@@ -16,6 +16,7 @@ mod said;
 mod top;
 mod writing;
 
+pub use avm_script::{spare_word, store_word};
 pub use ends::{End, FileOption};
 use fault::Fault;
 pub use top::avm;
