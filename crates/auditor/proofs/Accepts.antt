@@ -9,7 +9,9 @@ use Rattle.avm_model.specs.declared.judged.Verdict.{Verdict}
 use Rattle.avm_model.specs.declared.judged.Verdict.TheVariants.{BadAuth, Double, Uncommitted, Fork, Replay, Uncovered, Unmatched, Accepted}
 use Rattle.avm_model.specs.Marks.{verifies, hash_in, mark_at, marked, is_same, is_other}
 use Rattle.std.specs.Str.{bytes_eq as same}
-use Rattle.avm_model.specs.Verdict.{Case, marks, first_some, first_at, first_pair, doubles, with, conflicts, unmatched_mark, fork_by, replay_by, verdict}
+use Rattle.avm_model.specs.Basics.{first_at}
+use Rattle.std.specs.Option.{option_map}
+use Rattle.avm_model.specs.Verdict.{Case, marks, first_some, first_pair, doubles, conflicts, unmatched_mark, fork_by, replay_by, verdict}
 use Rattle.avm_model.specs.Marks.{cover, cover_number}
 use Rattle.auditor.proofs.RowLaws.{first_at_none}
 use Rattle.auditor.proofs.CaseLaws.{double_of, bad_of, fork_not, replay_not}
@@ -50,7 +52,7 @@ record Passed (bad : Option ℕ) (commit : Bool) (fault un : Option ℕ) : Type 
   pub un_none : un ≡ None
 
 accepted_row : (bad : Option ℕ) (pair : Option (ℕ × ℕ)) (commit : Bool) (fo rp : Option Verdict) (fault un : Option ℕ) (a b n x y z : ℕ) → (fo ≡ Some (Accepted x y z) → ⊥) → (rp ≡ Some (Accepted x y z) → ⊥)
-    → first_some (with BadAuth bad ∷ with double_of pair ∷ cond commit None (Some Uncommitted) ∷ fo ∷ rp ∷ with Uncovered fault ∷ with Unmatched un ∷ []) (Accepted a b n) ≡ Accepted x y z → Passed bad commit fault un
+    → first_some (option_map BadAuth bad ∷ option_map double_of pair ∷ cond commit None (Some Uncommitted) ∷ fo ∷ rp ∷ option_map Uncovered fault ∷ option_map Unmatched un ∷ []) (Accepted a b n) ≡ Accepted x y z → Passed bad commit fault un
 accepted_row (Some k) pair commit fo rp fault un a b n x y z nf nr e = absurd (badauth_accepted k x y z e)
 accepted_row None (Some p) commit fo rp fault un a b n x y z nf nr e = absurd (double_accepted p.0 p.1 x y z e)
 accepted_row None None false fo rp fault un a b n x y z nf nr e = absurd (uncommitted_accepted x y z e)
@@ -135,5 +137,5 @@ accepts c h =
     let un : first_at unmatched_mark 0 ms ≡ None = none_at unmatched_mark 0 ms (All-unmap (marked c.before c.frames) (λ (m : Marked). unmatched_mark m ≡ false) c.auths (All-imp _ _ c.auths (λ a q. (mark_is a.hash _ q).1) match)) in
     let fo : fork_by ms (cover ms) ≡ None = fork_none ms (cover ms) (All-unmap (marked c.before c.frames) (λ (m : Marked). is_other m.mark ≡ false) c.auths (All-imp _ _ c.auths (λ a q. (mark_is a.hash _ q).0) match)) in
     let pair = no_pair c.before c.frames 0 c.auths match in
-    all_none (with BadAuth (bad_of c)) (with double_of (first_pair doubles 0 c.auths)) (cond c.committed None (Some Uncommitted)) (fork_by ms (cover ms)) (replay_by c.fault (cover ms)) (with Uncovered c.fault) (with Unmatched (first_at unmatched_mark 0 ms)) _
+    all_none (option_map BadAuth (bad_of c)) (option_map double_of (first_pair doubles 0 c.auths)) (cond c.committed None (Some Uncommitted)) (fork_by ms (cover ms)) (replay_by c.fault (cover ms)) (option_map Uncovered c.fault) (option_map Unmatched (first_at unmatched_mark 0 ms)) _
     (rw bad refl) (rw pair refl) (rw h.committed refl) fo (replay_none c.fault (cover ms) h.replays) (rw h.replays refl) (rw un refl)

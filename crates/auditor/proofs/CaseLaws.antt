@@ -5,12 +5,14 @@ use Rattle.avm_model.specs.declared.judged.Marked.{Marked}
 use Rattle.avm_model.specs.declared.judged.Verdict.{Verdict}
 use Rattle.avm_model.specs.declared.judged.Verdict.TheVariants.{BadAuth, Double, Uncommitted, Fork, Replay, Uncovered, Unmatched, Accepted}
 use Rattle.avm_model.specs.Marks.{verifies, cover, cover_number}
-use Rattle.avm_model.specs.Verdict.{Case, marks, first_some, first_at, first_pair, doubles, with, unmatched_mark, fork_by, replay_by, uncommitted, uncovered, unmatched_by, verdict}
+use Rattle.avm_model.specs.Basics.{first_at}
+use Rattle.std.specs.Option.{option_map}
+use Rattle.avm_model.specs.Verdict.{Case, marks, first_some, first_pair, doubles, unmatched_mark, fork_by, replay_by, uncommitted, uncovered, unmatched_by, verdict}
 use Rattle.auditor.proofs.RowLaws.{with_some, then_some, cond_some}
 
 -- ---- rows that don't give a verdict
 
-with_not : {A : Type 0} (f : A → Verdict) (o : Option A) (u : Verdict) → ((x : A) → f x ≡ u → ⊥) → with f o ≡ Some u → ⊥
+with_not : {A : Type 0} (f : A → Verdict) (o : Option A) (u : Verdict) → ((x : A) → f x ≡ u → ⊥) → option_map f o ≡ Some u → ⊥
 with_not f o u h e = let w = with_some f o u e in h w.0 w.2
 
 pub fork_not : (ms : List Marked) (top : Option (ℕ × ℕ)) (u : Verdict) → ((i j : ℕ) → Fork i j ≡ u → ⊥) → fork_by ms top ≡ Some u → ⊥
@@ -95,14 +97,14 @@ accepted_replay : (x y z n : ℕ) → Accepted x y z ≡ Replay n → ⊥
 accepted_replay x y z n e = cc
 
 -- the rows behind Double, Fork and Replay
-double_last : (commit : Bool) (ms : List Marked) (top : Option (ℕ × ℕ)) (fault un : Option ℕ) (a b n i j : ℕ) → first_some (cond commit None (Some Uncommitted) ∷ fork_by ms top ∷ replay_by fault top ∷ with Uncovered fault ∷ with Unmatched un ∷ []) (Accepted a b n) ≡ Double i j → ⊥
-double_last commit ms top fault un a b n i j = none_of (cond commit None (Some Uncommitted) ∷ fork_by ms top ∷ replay_by fault top ∷ with Uncovered fault ∷ with Unmatched un ∷ []) (Accepted a b n) (Double i j) (uncommitted_not commit _ (uncommitted_double i j), (fork_not ms top _ (λ x y. fork_double x y i j), (replay_not fault top _ (λ x. replay_double x i j), (with_not Uncovered fault _ (λ x. uncovered_double x i j), (with_not Unmatched un _ (λ x. unmatched_double x i j), tt))))) (accepted_double a b n i j)
+double_last : (commit : Bool) (ms : List Marked) (top : Option (ℕ × ℕ)) (fault un : Option ℕ) (a b n i j : ℕ) → first_some (cond commit None (Some Uncommitted) ∷ fork_by ms top ∷ replay_by fault top ∷ option_map Uncovered fault ∷ option_map Unmatched un ∷ []) (Accepted a b n) ≡ Double i j → ⊥
+double_last commit ms top fault un a b n i j = none_of (cond commit None (Some Uncommitted) ∷ fork_by ms top ∷ replay_by fault top ∷ option_map Uncovered fault ∷ option_map Unmatched un ∷ []) (Accepted a b n) (Double i j) (uncommitted_not commit _ (uncommitted_double i j), (fork_not ms top _ (λ x y. fork_double x y i j), (replay_not fault top _ (λ x. replay_double x i j), (with_not Uncovered fault _ (λ x. uncovered_double x i j), (with_not Unmatched un _ (λ x. unmatched_double x i j), tt))))) (accepted_double a b n i j)
 
-fork_last : (ms : List Marked) (top : Option (ℕ × ℕ)) (fault un : Option ℕ) (a b n i j : ℕ) → first_some (replay_by fault top ∷ with Uncovered fault ∷ with Unmatched un ∷ []) (Accepted a b n) ≡ Fork i j → ⊥
-fork_last ms top fault un a b n i j = none_of (replay_by fault top ∷ with Uncovered fault ∷ with Unmatched un ∷ []) (Accepted a b n) (Fork i j) (replay_not fault top _ (λ x. replay_fork x i j), (with_not Uncovered fault _ (λ x. uncovered_fork x i j), (with_not Unmatched un _ (λ x. unmatched_fork x i j), tt))) (accepted_fork a b n i j)
+fork_last : (ms : List Marked) (top : Option (ℕ × ℕ)) (fault un : Option ℕ) (a b n i j : ℕ) → first_some (replay_by fault top ∷ option_map Uncovered fault ∷ option_map Unmatched un ∷ []) (Accepted a b n) ≡ Fork i j → ⊥
+fork_last ms top fault un a b n i j = none_of (replay_by fault top ∷ option_map Uncovered fault ∷ option_map Unmatched un ∷ []) (Accepted a b n) (Fork i j) (replay_not fault top _ (λ x. replay_fork x i j), (with_not Uncovered fault _ (λ x. uncovered_fork x i j), (with_not Unmatched un _ (λ x. unmatched_fork x i j), tt))) (accepted_fork a b n i j)
 
-replay_last : (fault un : Option ℕ) (a b n m : ℕ) → first_some (with Uncovered fault ∷ with Unmatched un ∷ []) (Accepted a b n) ≡ Replay m → ⊥
-replay_last fault un a b n m = none_of (with Uncovered fault ∷ with Unmatched un ∷ []) (Accepted a b n) (Replay m) (with_not Uncovered fault _ (λ x. uncovered_replay x m), (with_not Unmatched un _ (λ x. unmatched_replay x m), tt)) (accepted_replay a b n m)
+replay_last : (fault un : Option ℕ) (a b n m : ℕ) → first_some (option_map Uncovered fault ∷ option_map Unmatched un ∷ []) (Accepted a b n) ≡ Replay m → ⊥
+replay_last fault un a b n m = none_of (option_map Uncovered fault ∷ option_map Unmatched un ∷ []) (Accepted a b n) (Replay m) (with_not Uncovered fault _ (λ x. uncovered_replay x m), (with_not Unmatched un _ (λ x. unmatched_replay x m), tt)) (accepted_replay a b n m)
 
 pair_double : (x : ℕ × ℕ) (i j : ℕ) → Double x.0 x.1 ≡ Double i j → x ≡ (i, j)
 pair_double x i j e = let p : x.0 ≡ i = cc in let q : x.1 ≡ j = cc in ap₂ (λ (a b : ℕ). (a, b)) p q
@@ -110,13 +112,13 @@ pair_double x i j e = let p : x.0 ≡ i = cc in let q : x.1 ≡ j = cc in ap₂ 
 abbrev pub double_of : ℕ × ℕ → Verdict
 double_of x = Double x.0 x.1
 
-double_row : (bad : Option ℕ) (pair : Option (ℕ × ℕ)) (stages : List (Option Verdict)) (d : Verdict) (i j : ℕ) → (first_some stages d ≡ Double i j → ⊥) → first_some (with BadAuth bad ∷ with double_of pair ∷ stages) d ≡ Double i j → (bad ≡ None) × (pair ≡ Some (i, j))
+double_row : (bad : Option ℕ) (pair : Option (ℕ × ℕ)) (stages : List (Option Verdict)) (d : Verdict) (i j : ℕ) → (first_some stages d ≡ Double i j → ⊥) → first_some (option_map BadAuth bad ∷ option_map double_of pair ∷ stages) d ≡ Double i j → (bad ≡ None) × (pair ≡ Some (i, j))
 double_row (Some k) pair stages d i j never e = absurd (badauth_double k i j e)
 double_row None (Some x) stages d i j never e = (refl, ap (λ (y : ℕ × ℕ). Some y) (pair_double x i j e))
 double_row None None stages d i j never e = absurd (never e)
 
 fork_row : (bad : Option ℕ) (pair : Option (ℕ × ℕ)) (commit : Bool) (fo : Option Verdict) (stages : List (Option Verdict)) (d : Verdict) (i j : ℕ) → (first_some stages d ≡ Fork i j → ⊥)
-    → first_some (with BadAuth bad ∷ with double_of pair ∷ cond commit None (Some Uncommitted) ∷ fo ∷ stages) d ≡ Fork i j → (bad ≡ None) × (fo ≡ Some (Fork i j))
+    → first_some (option_map BadAuth bad ∷ option_map double_of pair ∷ cond commit None (Some Uncommitted) ∷ fo ∷ stages) d ≡ Fork i j → (bad ≡ None) × (fo ≡ Some (Fork i j))
 fork_row (Some k) pair commit fo stages d i j never e = absurd (badauth_fork k i j e)
 fork_row None (Some x) commit fo stages d i j never e = absurd (double_fork x.0 x.1 i j e)
 fork_row None None false fo stages d i j never e = absurd (uncommitted_fork i j e)
@@ -124,7 +126,7 @@ fork_row None None true None stages d i j never e = absurd (never e)
 fork_row None None true (Some v) stages d i j never e = (refl, ap (λ (x : Verdict). Some x) e)
 
 replay_row : (bad : Option ℕ) (pair : Option (ℕ × ℕ)) (commit : Bool) (fo rp : Option Verdict) (stages : List (Option Verdict)) (d : Verdict) (n : ℕ) → (fo ≡ Some (Replay n) → ⊥) → (first_some stages d ≡ Replay n → ⊥)
-    → first_some (with BadAuth bad ∷ with double_of pair ∷ cond commit None (Some Uncommitted) ∷ fo ∷ rp ∷ stages) d ≡ Replay n → (bad ≡ None) × (commit ≡ true) × (rp ≡ Some (Replay n))
+    → first_some (option_map BadAuth bad ∷ option_map double_of pair ∷ cond commit None (Some Uncommitted) ∷ fo ∷ rp ∷ stages) d ≡ Replay n → (bad ≡ None) × (commit ≡ true) × (rp ≡ Some (Replay n))
 replay_row (Some k) pair commit fo rp stages d n nf never e = absurd (badauth_replay k n e)
 replay_row None (Some x) commit fo rp stages d n nf never e = absurd (double_replay x.0 x.1 n e)
 replay_row None None false fo rp stages d n nf never e = absurd (uncommitted_replay n e)

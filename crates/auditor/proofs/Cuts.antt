@@ -7,7 +7,8 @@ use Rattle.avm_num.proofs.Numbers.{and_true}
 use Rattle.avm_num.specs.Lists.{list_bytes}
 use Rattle.avm_model.specs.Frame.{FrameData, FitsFrame, frame_bytes}
 use Rattle.avm_model.specs.Chain.{next_hash, top_of}
-use Rattle.avm_model.specs.Entries.{numbered, no_boot, flag, snaps, begins, follow, opens}
+use Rattle.avm_model.specs.Basics.{flag}
+use Rattle.avm_model.specs.Entries.{numbered, no_boot, snaps, begins, follow, opens}
 use Rattle.avm_model.specs.Machine.{State}
 use Rattle.avm_model.specs.Marks.{hash_in}
 use Rattle.avm_model.specs.Audit.{last_number, behind_first, is_committed}

@@ -9,7 +9,8 @@ use Rattle.avm_model.specs.Auth.{AuthData}
 use Rattle.avm_model.specs.declared.judged.Marked.{Marked}
 use Rattle.avm_model.specs.declared.judged.Mark.TheVariants as table
 use Rattle.avm_model.specs.Marks.{verifies, hash_in, mark_at, marked, is_same, is_other, cover}
-use Rattle.avm_model.specs.Verdict.{first_at, conflicts}
+use Rattle.avm_model.specs.Basics.{first_at}
+use Rattle.avm_model.specs.Verdict.{conflicts}
 use Rattle.auditor.proofs.RowLaws.{first_at_some, first_at_none, all_get, at_zero, cover_some}
 
 pub option_map_some : {A B : Type 0} (f : A → B) (o : Option A) (y : B) → option_map f o ≡ Some y → (x : A) × (o ≡ Some x) × (f x ≡ y)

@@ -3,7 +3,9 @@ use Rattle.std.proofs.Common.{◌≡◌, ℕ, zero, suc, ◌+◌, ◌-◌, ◌�
 use Rattle.std.specs.List.{AllByRecursion}
 use Rattle.avm_model.specs.declared.judged.Marked.{Marked}
 use Rattle.avm_model.specs.Marks.{is_same}
-use Rattle.avm_model.specs.Verdict.{first_some, first_at, first_pair, with, and_then, or_else}
+use Rattle.avm_model.specs.Basics.{first_at, or_else}
+use Rattle.std.specs.Option.{option_map, option_and_then}
+use Rattle.avm_model.specs.Verdict.{first_some, first_pair}
 use Rattle.avm_model.specs.Marks.{better, cover_from, cover}
 
 -- a row that isn't the answer is passed
@@ -16,11 +18,11 @@ pub hit : {V : Type 0} (o : Option V) (stages : List (Option V)) (d u : V) → (
 hit None stages d u never e = absurd (never e)
 hit (Some v) stages d u never e = ap (λ (x : _). Some x) e
 
-pub with_some : {A B : Type 0} (f : A → B) (o : Option A) (y : B) → with f o ≡ Some y → (x : A) × (o ≡ Some x) × (f x ≡ y)
+pub with_some : {A B : Type 0} (f : A → B) (o : Option A) (y : B) → option_map f o ≡ Some y → (x : A) × (o ≡ Some x) × (f x ≡ y)
 with_some f None y e = absurd cc
 with_some f (Some x) y e = (x, refl, cc)
 
-pub then_some : {A B : Type 0} (f : A → Option B) (o : Option A) (y : B) → and_then f o ≡ Some y → (x : A) × (o ≡ Some x) × (f x ≡ Some y)
+pub then_some : {A B : Type 0} (f : A → Option B) (o : Option A) (y : B) → option_and_then f o ≡ Some y → (x : A) × (o ≡ Some x) × (f x ≡ Some y)
 then_some f None y e = absurd cc
 then_some f (Some x) y e = (x, refl, e)
 
@@ -45,7 +47,7 @@ first_pair_some {A} r k i j (x ∷ xs) e = go (first_at (r x) (k + 1) xs) refl (
     Pair n ys = (a b : A) × (n ≤ i) × (n ≤ j) × (slice_get ys (i - n) ≡ Some a) × (slice_get ys (j - n) ≡ Some b) × (r a b ≡ true)
 
     go : (o : Option ℕ) → first_at (r x) (k + 1) xs ≡ o → (first_pair r (k + 1) xs ≡ Some (i, j) → (a b : A) × (k + 1 ≤ i) × (k + 1 ≤ j) × (slice_get xs (i - (k + 1)) ≡ Some a) × (slice_get xs (j - (k + 1)) ≡ Some b) × (r a b ≡ true))
-        → or_else (with (λ (m : ℕ). (k, m)) o) (first_pair r (k + 1) xs) ≡ Some (i, j) → (a b : A) × (k ≤ i) × (k ≤ j) × (slice_get (x ∷ xs) (i - k) ≡ Some a) × (slice_get (x ∷ xs) (j - k) ≡ Some b) × (r a b ≡ true)
+        → or_else (option_map (λ (m : ℕ). (k, m)) o) (first_pair r (k + 1) xs) ≡ Some (i, j) → (a b : A) × (k ≤ i) × (k ≤ j) × (slice_get (x ∷ xs) (i - k) ≡ Some a) × (slice_get (x ∷ xs) (j - k) ≡ Some b) × (r a b ≡ true)
     go None q ih h =
         let t = ih h in
         let l1 = t.2 in let l2 = t.3 in

@@ -17,7 +17,9 @@ use Rattle.avm_model.specs.Evidence.{EvidData, double, fork, replay}
 use Rattle.avm_model.specs.declared.judged.Verdict.{Verdict}
 use Rattle.avm_model.specs.declared.judged.Verdict.TheVariants.{Malformed, BadAuth, Double, Uncommitted, Fork, Replay, Uncovered, Unmatched, Accepted}
 use Rattle.avm_model.specs.Marks.{verifies, marked, cover}
-use Rattle.avm_model.specs.Verdict.{marks, first_at, first_pair, doubles, with, and_then, conflicts, fork_by, replay_by, verdict}
+use Rattle.avm_model.specs.Basics.{first_at}
+use Rattle.std.specs.Option.{option_map, option_and_then}
+use Rattle.avm_model.specs.Verdict.{marks, first_pair, doubles, conflicts, fork_by, replay_by, verdict}
 use Rattle.avm_model.specs.Audit.{Judged, snapshot, entry_frames, behind_first, last_number, is_committed, case_of, IsFaultOf}
 use Rattle.avm_model.specs.Holds.{DoubleHolds, ForkHolds, ReplayHolds, Holds, upto, bytes_upto, cut, with_two, evidence}
 use Rattle.avm_model.proofs.ReferenceLaws.{is_timed}
@@ -121,7 +123,7 @@ fork_shown : (key : List ℕ) (s : SegmentData) (h : HeadData) (auths : List Aut
     → with_two (λ (top other : AuthData). fork key s.front.start s.front.before (bytes_upto top.seq s) top other) (slice_get auths j) (slice_get auths i) ≡ Some e → Holds e
 fork_shown key s h auths i j e whole bad row w =
     let ms = map (marked s.front.before (entry_frames s)) auths in
-    let b = then_some (λ (x : ℕ × ℕ). with (λ y. Fork y x.0) (first_at (conflicts x.1) 0 ms)) (cover ms) (Fork i j) row in
+    let b = then_some (λ (x : ℕ × ℕ). option_map (λ y. Fork y x.0) (first_at (conflicts x.1) 0 ms)) (cover ms) (Fork i j) row in
     let c = with_some (λ (y : ℕ). Fork y b.0.0) (first_at (conflicts b.0.1) 0 ms) (Fork i j) b.2 in
     let ci = first_fork c.0 b.0.0 i j c.2 in
     let bj = second_fork c.0 b.0.0 i j c.2 in
@@ -139,16 +141,16 @@ some_auth x y h = cc
 replay_shown : (key : List ℕ) (s : SegmentData) (h : HeadData) (auths : List AuthData) (fault : Option ℕ) (n : ℕ) (e : EvidData) → Whole s h → is_committed (snapshot s h) (entry_frames s) ≡ true
     → IsFaultNumber (snapshot s h) (behind_first (entry_frames s)) fault → first_at (λ (x : AuthData). not (verifies key x)) 0 auths ≡ None
     → replay_by fault (cover (map (marked s.front.before (entry_frames s)) auths)) ≡ Some (Replay n)
-    → and_then (λ (j : ℕ × ℕ). with (λ (top : AuthData). replay key (segment_bytes (cut top.seq s)) top) (slice_get auths j.0)) (cover (map (marked s.front.before (entry_frames s)) auths)) ≡ Some e → Holds e
+    → option_and_then (λ (j : ℕ × ℕ). option_map (λ (top : AuthData). replay key (segment_bytes (cut top.seq s)) top) (slice_get auths j.0)) (cover (map (marked s.front.before (entry_frames s)) auths)) ≡ Some e → Holds e
 replay_shown key s h auths fault n e whole commit f bad row w =
     let ms = map (marked s.front.before (entry_frames s)) auths in
-    let a = then_some (λ (k : ℕ). and_then (λ (j : ℕ × ℕ). cond (nat_le k j.1) (Some (Replay k)) None) (cover ms)) fault (Replay n) row in
+    let a = then_some (λ (k : ℕ). option_and_then (λ (j : ℕ × ℕ). cond (nat_le k j.1) (Some (Replay k)) None) (cover ms)) fault (Replay n) row in
     let b = then_some (λ (j : ℕ × ℕ). cond (nat_le a.0 j.1) (Some (Replay a.0)) None) (cover ms) (Replay n) a.2 in
     let k = cond_some (nat_le a.0 b.0.1) (Replay a.0) (Replay n) b.2 in
     let le = leb-true _ _ k.0 in
     let t = top_is s.front.before (entry_frames s) auths b.0 b.1 in
     let at : IsFaultAt (snapshot s h) (behind_first (entry_frames s)) a.0 = subst (λ (x : Option ℕ). IsFaultNumber (snapshot s h) (behind_first (entry_frames s)) x) a.1 f in
-    let x = then_some (λ (j : ℕ × ℕ). with (λ (top : AuthData). replay key (segment_bytes (cut top.seq s)) top) (slice_get auths j.0)) (cover ms) e w in
+    let x = then_some (λ (j : ℕ × ℕ). option_map (λ (top : AuthData). replay key (segment_bytes (cut top.seq s)) top) (slice_get auths j.0)) (cover ms) e w in
     let same_b : b.0 ≡ x.0 = some_pair b.0 x.0 (sym b.1 ∙ x.1) in
     let y = with_some (λ (top : AuthData). replay key (segment_bytes (cut top.seq s)) top) (slice_get auths x.0.0) e x.2 in
     let ty : t.auth ≡ y.0 = some_auth t.auth y.0 (sym t.at ∙ subst (λ (z : ℕ × ℕ). slice_get auths z.0 ≡ Some y.0) (sym same_b) y.1) in

@@ -5,7 +5,9 @@ use Rattle.avm_model.specs.Auth.{AuthData}
 use Rattle.avm_model.specs.Segment.{segment_bytes}
 use Rattle.avm_model.specs.Evidence.{EvidData, double, fork, replay, key_of, evidence_bytes, FitsEvidence}
 use Rattle.avm_model.specs.Marks.{cover}
-use Rattle.avm_model.specs.Verdict.{marks, with, and_then, first_at, conflicts, doubles, verdict}
+use Rattle.avm_model.specs.Basics.{first_at}
+use Rattle.std.specs.Option.{option_map, option_and_then}
+use Rattle.avm_model.specs.Verdict.{marks, conflicts, doubles, verdict}
 use Rattle.avm_model.specs.Audit.{Judged, judged_of, entry_frames, case_of, marks_of, IsFaultOf, IsVerdict, IsVerdictOn}
 use Rattle.avm_model.specs.Holds.{Stands, evidence, has_evidence, with_two, bytes_upto, cut}
 use Rattle.avm_model.specs.declared.judged.Verdict.{Verdict}
@@ -29,7 +31,7 @@ double_there key auths i j a b p q = rw (p, q) refl
 two_there : (f : AuthData → AuthData → EvidData) (o p : Option AuthData) (a b : AuthData) → o ≡ Some a → p ≡ Some b → is_some (with_two f o p) ≡ true
 two_there f o p a b x y = rw (x, y) refl
 
-one_there : (f : AuthData → EvidData) (auths : List AuthData) (o : Option (ℕ × ℕ)) (b : ℕ × ℕ) (a : AuthData) → o ≡ Some b → slice_get auths b.0 ≡ Some a → is_some (and_then (λ (j : ℕ × ℕ). with f (slice_get auths j.0)) o) ≡ true
+one_there : (f : AuthData → EvidData) (auths : List AuthData) (o : Option (ℕ × ℕ)) (b : ℕ × ℕ) (a : AuthData) → o ≡ Some b → slice_get auths b.0 ≡ Some a → is_some (option_and_then (λ (j : ℕ × ℕ). option_map f (slice_get auths j.0)) o) ≡ true
 one_there f auths o b a x y = rw (x, y) refl
 
 pub evidence_some : (key : List ℕ) (d : Judged) (fault : Option ℕ) (v : Verdict) → verdict (case_of key d fault) ≡ v → is_some (evidence key d v) ≡ has_evidence v
@@ -44,7 +46,7 @@ evidence_some key d fault Uncommitted q = refl
 evidence_some key d fault (Fork i j) q =
     let r = fork_case (case_of key d fault) i j q in
     let ms = marks_of d in
-    let b = then_some (λ (x : ℕ × ℕ). with (λ y. Fork y x.0) (first_at (conflicts x.1) 0 ms)) (cover ms) (Fork i j) r.1 in
+    let b = then_some (λ (x : ℕ × ℕ). option_map (λ y. Fork y x.0) (first_at (conflicts x.1) 0 ms)) (cover ms) (Fork i j) r.1 in
     let c = with_some (λ (y : ℕ). Fork y b.0.0) (first_at (conflicts b.0.1) 0 ms) (Fork i j) b.2 in
     let ci = first_fork c.0 b.0.0 i j c.2 in
     let bj = second_fork c.0 b.0.0 i j c.2 in
@@ -55,7 +57,7 @@ evidence_some key d fault (Fork i j) q =
 evidence_some key d fault (Replay n) q =
     let r = replay_case (case_of key d fault) n q in
     let ms = marks_of d in
-    let a = then_some (λ (k : ℕ). and_then (λ (j : ℕ × ℕ). cond (nat_le k j.1) (Some (Replay k)) None) (cover ms)) fault (Replay n) r.2 in
+    let a = then_some (λ (k : ℕ). option_and_then (λ (j : ℕ × ℕ). cond (nat_le k j.1) (Some (Replay k)) None) (cover ms)) fault (Replay n) r.2 in
     let b = then_some (λ (j : ℕ × ℕ). cond (nat_le a.0 j.1) (Some (Replay a.0)) None) (cover ms) (Replay n) a.2 in
     let t = top_is d.segment.front.before (entry_frames d.segment) d.auths b.0 b.1 in
     one_there (λ (top : AuthData). replay key (segment_bytes (cut top.seq d.segment)) top) d.auths (cover ms) b.0 t.auth b.1 t.at
@@ -91,7 +93,7 @@ evidence_fits segment auths key d (Fork i j) e len k w =
     let t = two_known (λ (top other : AuthData). fork key d.segment.front.start d.segment.front.before (bytes_upto top.seq d.segment) top other) (slice_get d.auths j) (slice_get d.auths i) e w in
     subst (Suits key) t.4 (fork_fits key d.segment d.head t.0.seq t.0 t.1 len k.whole (auth_fits d.auths j t.0 k.fits t.2) (auth_fits d.auths i t.1 k.fits t.3), refl)
 evidence_fits segment auths key d (Replay n) e len k w =
-    let x = then_some (λ (j : ℕ × ℕ). with (λ (top : AuthData). replay key (segment_bytes (cut top.seq d.segment)) top) (slice_get d.auths j.0)) (cover (marks_of d)) e w in
+    let x = then_some (λ (j : ℕ × ℕ). option_map (λ (top : AuthData). replay key (segment_bytes (cut top.seq d.segment)) top) (slice_get d.auths j.0)) (cover (marks_of d)) e w in
     let y = with_some (λ (top : AuthData). replay key (segment_bytes (cut top.seq d.segment)) top) (slice_get d.auths x.0.0) e x.2 in
     subst (Suits key) y.2 (replay_fits key d.segment d.head y.0.seq y.0 len k.whole (auth_fits d.auths x.0.0 y.0 k.fits y.1), refl)
 evidence_fits segment auths key d (Uncovered n) e len k w = nothing e w

@@ -2,7 +2,8 @@
 ghost use Rattle.std.specs.Prelude.{◌≡◌, ◌≤◌, ◌^◌, ◌∷◌, [], length, map, IfOk, List};
 ghost use Rattle.avm_model.specs.Frame.{frames_of};
 ghost use Rattle.avm_model.specs.Marks.{cover, cover_number};
-ghost use Rattle.avm_model.specs.Verdict.{verdict, first_some, with, fork_by, replay_by, unmatched_by};
+ghost use Rattle.std.specs.Option.{option_map};
+ghost use Rattle.avm_model.specs.Verdict.{verdict, first_some, fork_by, replay_by, unmatched_by};
 ghost use Rattle.avm_model.specs.declared.judged.Verdict.TheVariants.{Uncovered, Accepted};
 ghost use Rattle.avm_auth.specs.Views.{auth_view};
 ghost use Rattle.auditor.specs.Cases.{case_from};
@@ -31,7 +32,7 @@ fn collect<'a>(alloc: Global, auths: Auths<'a>) -> Result<Vec<Auth<'a>>, NoMemor
 /// The rows from Fork on.
 fn later(first: u64, last: u64, fault: Option<u64>, marks: &[Marked]) -> Verdict
     requires { length marks.now ≤ 2 ^ 24 }
-    ensures { result ≡ first_some (fork_by marks.now (cover marks.now) ∷ replay_by fault (cover marks.now) ∷ with Uncovered fault ∷ unmatched_by marks.now ∷ []) (Accepted first last (cover_number (cover marks.now))) }
+    ensures { result ≡ first_some (fork_by marks.now (cover marks.now) ∷ replay_by fault (cover marks.now) ∷ option_map Uncovered fault ∷ unmatched_by marks.now ∷ []) (Accepted first last (cover_number (cover marks.now))) }
 {
     let top = cover_of(marks);
     if let Some((j, number)) = top {

@@ -2,7 +2,8 @@
 ghost use Rattle.std.specs.Prelude.{◌≡◌, ◌≤◌, ◌+◌, ◌^◌, length, drop, map, not};
 ghost use Rattle.avm_auth.specs.Views.{auth_view};
 ghost use Rattle.avm_model.specs.Marks.{verifies, cover, better};
-ghost use Rattle.avm_model.specs.Verdict.{first_at, first_pair, doubles, conflicts, unmatched_mark};
+ghost use Rattle.avm_model.specs.Basics.{first_at};
+ghost use Rattle.avm_model.specs.Verdict.{first_pair, doubles, conflicts, unmatched_mark};
 ghost use Rattle.auditor.specs.Pairs.{are_double};
 
 use crate::valid::{is_same, is_valid};

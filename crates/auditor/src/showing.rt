@@ -6,7 +6,7 @@ ghost use Rattle.avm_model.specs.Frame.{FrameData, FitsFrame, frame_bytes, frame
 ghost use Rattle.avm_model.specs.Auth.{AuthData};
 ghost use Rattle.avm_model.specs.Evidence as evid;
 ghost use Rattle.avm_model.specs.Marks.{hash_in, marked, cover};
-ghost use Rattle.avm_model.specs.Verdict.{with, and_then};
+ghost use Rattle.std.specs.Option.{option_and_then};
 ghost use Rattle.avm_model.specs.Holds.{upto, with_two};
 ghost use Rattle.avm_auth.specs.Views.{auth_view};
 ghost use Rattle.evid_file.specs.Views.{evidence_view};

@@ -1,12 +1,11 @@
 -- The test of a booted state is true exactly at a booted state.
-use Rattle.std.proofs.Common.{◌≡◌, ℕ, ◌+◌, ◌*◌, ◌/◌, Bool, true, false, not, nat_eq, ◌&&◌, List, [], ◌∷◌, length, map, replicate, Option, Some, None, is_some, refl, sym, ap, subst, ◌∙◌, arith}
+use Rattle.std.proofs.Common.{◌≡◌, ℕ, true, not, nat_eq, List, [], ◌∷◌, length, map, replicate, Option, Some, None, is_some, refl, sym, ap, subst, arith}
 use Rattle.std.specs.Str.{bytes_eq}
 use Rattle.std.specs.Cmp.Lexicographic.{bytes_decides}
-use Rattle.std.proofs.lemmas.Bool.{and_parts, and_from, eqb-true, eq-eqb, not-true}
-use Rattle.avm_model.specs.Device.{DeviceState, MessageState, idle, fresh}
+use Rattle.std.proofs.lemmas.Bool.{and_parts, and_from, eqb-true, eq-eqb}
+use Rattle.avm_model.specs.Device.{DeviceState, idle, fresh}
 use Rattle.avm_model.specs.Machine.{State, is_running}
-use Rattle.avm_model.specs.Init.{Init}
-use Rattle.avm_model.specs.ImageState.{Image, Gives, Refuses, image, unused, config_of, IsBooted, IsBootedFrom, IsImageOf, are_unused, is_fresh, is_booted, is_booted_from, is_image_of}
+use Rattle.avm_model.specs.ImageState.{Image, Gives, Refuses, unused, IsBooted, IsBootedFrom, IsImageOf, are_unused, is_fresh, is_booted, is_booted_from, is_image_of}
 use Rattle.avm_model.specs.declared.Peer.{Peer}
 use Rattle.avm_model.specs.declared.Status.{Status}
 use Rattle.avm_model.specs.declared.Status.TheVariants.{Running, Waiting, Halted}

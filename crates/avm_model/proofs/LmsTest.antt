@@ -4,7 +4,6 @@ use Rattle.std.specs.Bool.{Decides}
 use Rattle.std.specs.Prelude.{◌&&◌}
 use Rattle.std.proofs.lemmas.Bool.Decides.{nat_tests, Decides-and, Decides-eqb, Decides-ltb, Decides-like, same_from_decides}
 use Rattle.std.proofs.lemmas.Slice.Eq.{bytes_eq-Decides}
-use Rattle.std.specs.Str.{bytes_eq}
 use Rattle.avm_model.specs.LmsTypes.{chains_of, height_of, IsOts, IsLms}
 use Rattle.avm_model.specs.LmsValid.{number, root_by, IsValid, Valid, has_types, is_valid, valid}
 

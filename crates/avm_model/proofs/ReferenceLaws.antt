@@ -1,12 +1,12 @@
 -- The reference machine is a machine with a count.
-use Rattle.std.proofs.Common.{◌≡◌, ℕ, ◌+◌, ◌%◌, Bool, true, false, cond, Option, Some, None, List, [], ◌∷◌, ◌++◌, map, refl, sym, ap, subst, ◌∙◌, eqb-true, eq-eqb}
-use Rattle.std.specs.Prelude.{if◌then◌else◌, ◌==◌, ◌&&◌}
+use Rattle.std.proofs.Common.{◌≡◌, ℕ, ◌+◌, Bool, true, false, Option, Some, None, List, [], ◌∷◌, map, refl, sym, ap, subst, ◌∙◌, eqb-true, eq-eqb}
+use Rattle.std.specs.Prelude.{if◌then◌else◌, ◌&&◌}
 use Rattle.std.specs.List.{AllByRecursion}
 use Rattle.std.specs.Str.{bytes_eq}
 use Rattle.std.proofs.lemmas.Slice.Eq.{bytes_eq-Decides}
 use Rattle.avm_model.specs.Timed.{IsTimed}
 use Rattle.avm_model.specs.Exec.{Outcome, Goes, Waits, Stops}
-use Rattle.avm_model.specs.Machine.{State, Board, Output, Out, Send, Halt, Snap, Step, Stepped, stepped, can_step, exec_flat, board_of}
+use Rattle.avm_model.specs.Machine.{State, Board, Output, Out, Send, Halt, Snap, Step, stepped, can_step, exec_flat, board_of}
 use Rattle.avm_model.specs.Input.{InputState, Console, Clock, Message, Acked, Take}
 use Rattle.avm_model.specs.Offer.{Offer, OfferConsole, OfferClock, OfferData, OfferAck, DataIn, AckIn, data_in, ack_in, take_data, take_ack, refused, taken}
 use Rattle.avm_model.specs.Reference.{Given, Made, OutAt, SendAt, HaltAt, SnapAt, NothingAt, made_count, made_of, made_by, step_of, take_of, unless, same_made, timed}

@@ -1,8 +1,8 @@
 -- An entry costs the reference machine at most K steps.
-use Rattle.std.proofs.Common.{◌≡◌, ℕ, ◌+◌, ◌%◌, ◌<◌, ◌≤◌, Bool, true, false, not, List, [], ◌∷◌, ◌++◌, map, length, Option, Some, None, refl, sym, ap, subst, ◌∙◌, arith, eq-eqb}
+use Rattle.std.proofs.Common.{◌≡◌, ℕ, ◌+◌, ◌%◌, ◌<◌, ◌≤◌, Bool, true, false, not, List, [], ◌∷◌, ◌++◌, map, length, Some, refl, ap, ◌∙◌, eq-eqb}
 use Rattle.std.specs.Prelude.{if◌then◌else◌, ◌==◌}
 use Rattle.avm_model.specs.Exec.{Outcome, Goes, Waits, Stops}
-use Rattle.avm_model.specs.Machine.{State, Board, Output, Out, Halt, Snap, Step, stepped, exec_flat, board_of, out_line, out_send, out_snap, is_complete}
+use Rattle.avm_model.specs.Machine.{State, Board, Output, Halt, Snap, Step, stepped, exec_flat, board_of, out_line, out_send, out_snap, is_complete}
 use Rattle.avm_model.specs.Reference.{Made, made_of, step_of, timed}
 use Rattle.avm_model.specs.Judge.{settle}
 use Rattle.avm_model.proofs.StepLaws.{can_go}

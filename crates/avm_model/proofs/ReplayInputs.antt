@@ -1,9 +1,9 @@
 -- Which inputs don't replay.
-use Rattle.std.proofs.Common.{◌≡◌, ℕ, ◌+◌, ◌-◌, ◌≤◌, ◌<◌, Bool, true, false, cond, eqb, List, [], ◌∷◌, ◌++◌, Option, Some, None, refl, sym, ap, ◌∙◌, arith, ne_eqb}
+use Rattle.std.proofs.Common.{◌≡◌, ℕ, ◌+◌, ◌-◌, ◌≤◌, ◌<◌, Bool, true, false, cond, eqb, List, [], ◌∷◌, ◌++◌, Option, Some, None, refl, ap, ◌∙◌, arith, ne_eqb}
 use Rattle.avm_model.specs.Timed.{Timed, IsTimed, Entry, given, takes}
 use Rattle.avm_model.specs.Rerun.{Stand, Stands, Replays, moved}
-use Rattle.avm_model.specs.Judge.{judge, settle, settled, accept}
-use Rattle.avm_model.proofs.ReplayLaws.{settle_past, Quiet, quiet_law}
+use Rattle.avm_model.specs.Judge.{judge, settle, settled}
+use Rattle.avm_model.proofs.ReplayLaws.{settle_past}
 use Rattle.avm_model.proofs.ReplayRecording.{past_all}
 use Rattle.avm_model.proofs.ReplayTheorems.{faults}
 

@@ -1,10 +1,11 @@
 -- Judging one entry at a time is comparing with the run.
-use Rattle.std.proofs.Common.{◌≡◌, ℕ, zero, suc, ◌+◌, ◌-◌, ◌*◌, ◌/◌, ◌%◌, ◌≤◌, ◌<◌, Bool, true, false, cond, eqb, List, [], ◌∷◌, ◌++◌, Option, Some, None, refl, sym, ap, subst, arith, eqb-true, true-eqb, eq-eqb, ne_eqb, ◌∙◌, ◌⊎◌, inl, inr}
+use Rattle.std.proofs.Common.{◌≡◌, ℕ, zero, suc, ◌+◌, ◌-◌, ◌*◌, ◌/◌, ◌%◌, ◌≤◌, ◌<◌, Bool, true, false, cond, eqb, List, [], ◌∷◌, ◌++◌, Option, Some, None, refl, sym, ap, subst, arith, eqb-true, ne_eqb, ◌∙◌, ◌⊎◌, inl, inr}
 use Rattle.std.proofs.Math.Nat.{mul-mod_left}
 use Rattle.std.specs.List.{AllByRecursion}
 use Rattle.avm_model.specs.Timed.{Timed, IsTimed, Entry, given, made, inputs, entry_count, last_count, takes}
-use Rattle.avm_model.specs.Rerun.{Stand, reached, after, Moment, outputs, taking, taking_one, stepping, after_taking, run, rerun, IsFront, Replays}
-use Rattle.avm_model.specs.Judge.{judge, settled, judge_all, quiet, quiet_out, quiet_step, settle, compare, accept, stand_of, and_then}
+use Rattle.avm_model.specs.Rerun.{Stand, reached, Moment, outputs, taking, taking_one, stepping, after_taking, run, IsFront}
+use Rattle.std.specs.Option.{option_and_then}
+use Rattle.avm_model.specs.Judge.{judge, settled, judge_all, quiet, quiet_out, quiet_step, settle, compare, accept, stand_of}
 
 -- The outputs that no entry has matched carry the state's count.
 abbrev pub Fresh : {S I O : Type 0} → Timed S I O → Stand S O → Type 0
@@ -83,7 +84,7 @@ judge_law m law j e k f h =
     record { low = omega (arith, s.0, d.0); is = d.1; fresh = d.2 }
 
 -- the first step of judging a list that isn't empty
-and_then_is : {A B : Type 0} (r : Option A) (f : A → Option B) (y : B) → and_then r f ≡ Some y → (x : A) × (r ≡ Some x) × (f x ≡ Some y)
+and_then_is : {A B : Type 0} (r : Option A) (f : A → Option B) (y : B) → option_and_then f r ≡ Some y → (x : A) × (r ≡ Some x) × (f x ≡ Some y)
 and_then_is None f y e = absurd cc
 and_then_is (Some x) f y e = (x, refl, e)
 
@@ -261,7 +262,7 @@ step_one {S} {I} {O} m law s t os d e es st same front h =
     let b = and_then_is (judge m (record { state = t; pending = os }) e) (λ q. judge_all m q es) _ h in
     let one = judge_law m law (record { state = t; pending = os }) e b.0 (law.stamps s t os st) b.1 in
     let past = settle_past m (entry_count m e) s t os st (law.steps s t os st) one.low in
-    let judged : judge_all m (record { state = s; pending = [] }) (e ∷ es) ≡ judge_all m (record { state = t; pending = os }) (e ∷ es) = ap (λ (q : Stand S O). and_then (settled m e q) (λ k. judge_all m k es)) past in
+    let judged : judge_all m (record { state = s; pending = [] }) (e ∷ es) ≡ judge_all m (record { state = t; pending = os }) (e ∷ es) = ap (λ (q : Stand S O). option_and_then (λ k. judge_all m k es) (settled m e q)) past in
     let r = reached_any e es (outputs t os ++ run m d t (inputs (e ∷ es))) (record { state = t; pending = os }) (record { state = s; pending = [] }) front in
     judged ∙ h ∙ ap (λ (x : Stand S O). Some x) (r ∙ ap (λ (ms : List (Moment S I O)). reached (e ∷ es) ms (record { state = s; pending = [] })) (sym same))
 

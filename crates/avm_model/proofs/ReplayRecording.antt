@@ -1,9 +1,8 @@
 -- What a recorder makes replays.
-use Rattle.std.proofs.Common.{◌≡◌, ℕ, zero, suc, ◌+◌, ◌-◌, ◌≤◌, ◌<◌, Bool, true, false, List, [], ◌∷◌, ◌++◌, map, Option, Some, None, refl, sym, ap, subst, ◌∙◌, arith}
-use Rattle.std.specs.List.{AllByRecursion}
+use Rattle.std.proofs.Common.{◌≡◌, ℕ, zero, suc, ◌+◌, ◌-◌, ◌≤◌, List, [], ◌∷◌, ◌++◌, map, Option, Some, None, refl, ap, ◌∙◌, arith}
 use Rattle.avm_model.specs.Timed.{Timed, IsTimed, Entry, given, made, takes}
-use Rattle.avm_model.specs.Rerun.{Stand, start, Stands, moved, moved_by, moved_out}
-use Rattle.avm_model.specs.Judge.{judge, judge_all, settle, settled, and_then}
+use Rattle.avm_model.specs.Rerun.{start, Stands, moved, moved_by, moved_out}
+use Rattle.avm_model.specs.Judge.{judge, judge_all, settle, settled}
 use Rattle.avm_model.proofs.ReplayLaws.{taken, settle_past}
 use Rattle.avm_model.proofs.ReplayTheorems.{Stands-judged, judged-Stands, judge_all-append}
 

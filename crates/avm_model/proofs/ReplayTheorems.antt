@@ -1,11 +1,12 @@
 -- What the definitions of replay say of judging one entry at a time.
-use Rattle.std.proofs.Common.{◌≡◌, ℕ, zero, suc, ◌+◌, ◌-◌, ◌≤◌, ◌<◌, List, [], ◌∷◌, ◌++◌, length, map, ap₂, take, drop, get_or, take-suc, take-take, take-append-drop, Option, Some, None, refl, sym, ap, subst, ◌∙◌, ◌⊎◌, inl, inr, arith, append_assoc}
+use Rattle.std.proofs.Common.{◌≡◌, ℕ, zero, suc, ◌+◌, ◌-◌, ◌≤◌, ◌<◌, List, [], ◌∷◌, ◌++◌, length, map, ap₂, take, drop, get_or, take-suc, take-take, take-append-drop, Option, Some, None, refl, sym, ap, subst, ◌∙◌, ◌⊎◌, inl, inr, arith}
 use Rattle.std.proofs.lemmas.Bool.{cases_lt}
 use Rattle.std.proofs.Math.Seq.{take-append-add}
 use Rattle.std.proofs.lemmas.List.{length-append, take-append-le, take-map, length-map, get_or-map}
-use Rattle.avm_model.specs.Timed.{Timed, IsTimed, Entry, given, made, inputs, last_count, takes}
-use Rattle.avm_model.specs.Rerun.{IsFault, NotTaken, after_taking, Stand, run, rerun, outputs, after, start, Stands, Replays, IsFirstFault}
-use Rattle.avm_model.specs.Judge.{judge, judge_all, and_then}
+use Rattle.avm_model.specs.Timed.{Timed, IsTimed, Entry, given, last_count, takes}
+use Rattle.avm_model.specs.Rerun.{IsFault, NotTaken, after_taking, Stand, rerun, outputs, after, start, Stands, Replays, IsFirstFault}
+use Rattle.std.specs.Option.{option_and_then}
+use Rattle.avm_model.specs.Judge.{judge, judge_all}
 use Rattle.avm_model.proofs.ReplayLaws.{taken, front_of_judged, judged_of_front}
 
 pub judged_of_replays : {S I O : Type 0} (m : Timed S I O) → IsTimed m → (s : S) (es : List (Entry I O)) → Replays m s es → judge_all m (start s) es ≡ Some (after m s es)
@@ -23,11 +24,11 @@ Stands-judged m law s es j h =
 pub judged-Stands : {S I O : Type 0} (m : Timed S I O) → IsTimed m → (s : S) (es : List (Entry I O)) (j : Stand S O) → Stands m s es j → judge_all m (start s) es ≡ Some j
 judged-Stands m law s es j h = rw h.is (judged_of_replays m law s es h.replays)
 
-pub judge_all-append : {S I O : Type 0} (m : Timed S I O) (j : Stand S O) (a b : List (Entry I O)) → judge_all m j (a ++ b) ≡ and_then (judge_all m j a) (λ k. judge_all m k b)
+pub judge_all-append : {S I O : Type 0} (m : Timed S I O) (j : Stand S O) (a b : List (Entry I O)) → judge_all m j (a ++ b) ≡ option_and_then (λ k. judge_all m k b) (judge_all m j a)
 judge_all-append m j [] b = refl
 judge_all-append {S} {I} {O} m j (e ∷ a) b = go (λ (k : Stand S O). judge_all-append m k a b) (judge m j e)
   where
-    go : ((k : Stand S O) → judge_all m k (a ++ b) ≡ and_then (judge_all m k a) (λ k. judge_all m k b)) → (r : Option (Stand S O)) → and_then r (λ k. judge_all m k (a ++ b)) ≡ and_then (and_then r (λ k. judge_all m k a)) (λ k. judge_all m k b)
+    go : ((k : Stand S O) → judge_all m k (a ++ b) ≡ option_and_then (λ k. judge_all m k b) (judge_all m k a)) → (r : Option (Stand S O)) → option_and_then (λ k. judge_all m k (a ++ b)) r ≡ option_and_then (λ k. judge_all m k b) (option_and_then (λ k. judge_all m k a) r)
     go ih None = refl
     go ih (Some k) = ih k
 
@@ -35,7 +36,7 @@ judge_all-append {S} {I} {O} m j (e ∷ a) b = go (λ (k : Stand S O). judge_all
 pub front_replays : {S I O : Type 0} (m : Timed S I O) → IsTimed m → (s : S) (a b : List (Entry I O)) → Replays m s (a ++ b) → Replays m s a
 front_replays {S} {I} {O} m law s a b h = go (judge_all m (start s) a) refl (sym (judge_all-append m (start s) a b) ∙ judged_of_replays m law s (a ++ b) h)
   where
-    go : (r : Option (Stand S O)) → judge_all m (start s) a ≡ r → and_then r (λ k. judge_all m k b) ≡ Some (after m s (a ++ b)) → Replays m s a
+    go : (r : Option (Stand S O)) → judge_all m (start s) a ≡ r → option_and_then (λ k. judge_all m k b) r ≡ Some (after m s (a ++ b)) → Replays m s a
     go None p e = absurd cc
     go (Some k) p e = replays_of_judged m law s a k p
 

@@ -1,5 +1,5 @@
 -- A state that can step does not wait for a clock.
-use Rattle.std.proofs.Common.{◌≡◌, ℕ, ◌+◌, ◌%◌, ◌^◌, Bool, true, false, not, cond, nat_le, nat_lt, Option, Some, None, is_some, refl, sym, ap, subst, ◌∙◌, eqb-true, eq-eqb}
+use Rattle.std.proofs.Common.{◌≡◌, ℕ, ◌+◌, ◌%◌, ◌^◌, Bool, true, false, not, nat_le, nat_lt, Option, Some, None, refl, eqb-true, eq-eqb}
 use Rattle.std.specs.Prelude.{if◌then◌else◌, ◌==◌, ◌&&◌, ◌||◌, slice_get}
 use Rattle.std.specs.Option.{option_and_then}
 use Rattle.avm_model.specs.Hart.{HartState, reg}
@@ -7,14 +7,13 @@ use Rattle.avm_model.specs.Decode.{decoded}
 use Rattle.avm_model.specs.Values.{bytes_of, load_width, store_width, is_taken}
 use Rattle.avm_model.specs.Memory.{ram_load}
 use Rattle.avm_model.specs.Device.{DeviceState, device_load, load_console, load_clock}
-use Rattle.avm_model.specs.Exec.{Loaded, Gave, NotMapped, NoClock, Outcome, Goes, Waits, Stops, jump, branch, after_load, load, after_store, store, executed, run_inst, run_word}
-use Rattle.avm_model.specs.Machine.{State, Board, board, flat, board_of, board_load, load_from, load_beyond, with_devices, exec_flat, asks, can_step, is_running, loads_clock, next_inst}
+use Rattle.avm_model.specs.Exec.{Loaded, Gave, NotMapped, NoClock, Waits, Stops, jump, branch, after_load, load, after_store, store, executed, run_inst, run_word}
+use Rattle.avm_model.specs.Machine.{State, Board, board, flat, board_of, board_load, load_from, load_beyond, with_devices, exec_flat, can_step, is_running, loads_clock, next_inst}
 use Rattle.avm_model.specs.declared.Width.{Width}
 use Rattle.avm_model.specs.declared.Width.TheVariants.{Byte, Half, Word}
 use Rattle.avm_model.specs.declared.LoadOp.{LoadOp}
 use Rattle.avm_model.specs.declared.LoadOp.TheVariants.{Lb, Lh, Lw, Lbu, Lhu}
 use Rattle.avm_model.specs.declared.StoreOp.{StoreOp}
-use Rattle.avm_model.specs.declared.Status.{Status}
 use Rattle.avm_model.specs.declared.Inst.{Inst}
 use Rattle.avm_model.specs.declared.Inst.TheVariants.{Lui, Auipc, Jal, Jalr, Branch, Load, Store, Imm, Op, Mul, Fence, Ecall, Ebreak}
 

@@ -1,5 +1,6 @@
 -- The entries of a segment (docs/FORMATS.md, Segment).
 use Rattle.std.specs.Prelude.{ℕ, ◌+◌, ◌==◌, ◌&&◌, not, nat_le, Bool, true, false, List, [], ◌∷◌, if◌then◌else◌}
+use Rattle.avm_model.specs.Basics.{flag}
 use Rattle.avm_model.specs.Frame.{FrameData, frame_at, frames_of}
 use Rattle.avm_num.specs.Walk.{behind_of, is_nil}
 
@@ -12,11 +13,6 @@ numbered n (f ∷ fs) = f.seq == n && numbered (n + 1) fs
 abbrev pub no_boot : List FrameData → Bool
 no_boot [] = true
 no_boot (f ∷ fs) = not (f.kind == 1) && no_boot fs
-
--- a condition as a count
-abbrev pub flag : Bool → ℕ
-flag true = 1
-flag false = 0
 
 -- how many of them are SNAP
 abbrev pub snaps : List FrameData → ℕ

@@ -1,5 +1,5 @@
 -- Evidence: what shows a fault to others (docs/FORMATS.md, "Evidence").
-use Rattle.std.specs.Prelude.{◌≡◌, ℕ, ◌+◌, ◌^◌, ◌<◌, ◌≤◌, ◌==◌, ◌&&◌, List, ◌++◌, length, Option, Some, None, if◌then◌else◌, nat_le}
+use Rattle.std.specs.Prelude.{◌≡◌, ℕ, ◌+◌, ◌^◌, ◌<◌, ◌≤◌, ◌==◌, List, ◌++◌, length, Option, None, if◌then◌else◌, nat_le}
 use Rattle.std.specs.Int.{w32, w64}
 use Rattle.avm_num.specs.Bytes.{◌>>=◌, number_at, piece_at, byte_at, kept}
 use Rattle.avm_num.specs.Lists.{be, one, exact_at, sized_at, sized_bytes}

@@ -12,7 +12,7 @@ use Rattle.avm_model.specs.Rerun.{Replays}
 use Rattle.avm_model.specs.Reference.{timed, entries_of}
 use Rattle.avm_model.specs.Evidence.{EvidData, double, fork, replay, key_of, evidence_at}
 use Rattle.avm_model.specs.Marks.{verifies, hash_in, cover}
-use Rattle.avm_model.specs.Verdict.{with, and_then}
+use Rattle.std.specs.Option.{option_map, option_and_then}
 use Rattle.avm_model.specs.Audit.{Judged, snapshot, entry_frames, behind_first, last_number, is_committed, marks_of}
 use Rattle.avm_model.specs.declared.judged.Verdict.{Verdict}
 use Rattle.avm_model.specs.declared.judged.Verdict.TheVariants.{Double, Fork, Replay}
@@ -76,14 +76,14 @@ cut m s = record s { frames = bytes_upto m s }
 
 abbrev pub with_two : {A B C : Type 0} → (A → B → C) → Option A → Option B → Option C
 with_two f None b = None
-with_two f (Some a) b = with (f a) b
+with_two f (Some a) b = option_map (f a) b
 
 -- for a number with two hashes both authenticators; for a fork the frames up to the cover's number, the cover and the other; for a
 -- fault the segment cut after the cover's number, and the cover; for any other verdict nothing
 unfoldable pub evidence : List ℕ → Judged → Verdict → Option EvidData
 evidence key d (Double i j) = with_two (λ a b. double key a b) (slice_get d.auths i) (slice_get d.auths j)
 evidence key d (Fork i j) = with_two (λ top other. fork key d.segment.front.start d.segment.front.before (bytes_upto top.seq d.segment) top other) (slice_get d.auths j) (slice_get d.auths i)
-evidence key d (Replay n) = and_then (λ j. with (λ top. replay key (segment_bytes (cut top.seq d.segment)) top) (slice_get d.auths j.0)) (cover (marks_of d))
+evidence key d (Replay n) = option_and_then (λ j. option_map (λ top. replay key (segment_bytes (cut top.seq d.segment)) top) (slice_get d.auths j.0)) (cover (marks_of d))
 evidence key d v = None
 
 -- a verdict that has evidence

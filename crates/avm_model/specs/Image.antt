@@ -1,20 +1,11 @@
 -- Images: what a file loads, or why it is refused (docs/FORMATS.md, "Images"). An image is flat bytes, or an executable of
 -- the ELF-32 Object File Format, of which the segments to be loaded count alone.
 use Rattle.std.specs.Prelude.{ℕ, zero, suc, ◌+◌, ◌-◌, ◌*◌, ◌%◌, ◌^◌, ◌==◌, ◌&&◌, ◌||◌, not, nat_le, nat_lt, Bool, List, [], ◌∷◌, ◌++◌, length, slice_index, slice_range, replicate, Option, Some, None, if◌then◌else◌}
+use Rattle.avm_model.specs.Basics.{first_at, or_else}
 use Rattle.avm_model.specs.Memory.{number_at, put_at}
 use Rattle.avm_model.specs.declared.loading.LoadFault.{LoadFault}
 use Rattle.avm_model.specs.declared.loading.LoadFault.TheVariants.{Empty, TooLong, NotElf, NotRiscv32, Compressed, Headers, Segment, Outside, Entry}
 use Rattle.avm_model.specs.declared.loading.ProgramHeader.{ProgramHeader}
-
--- the first fault of two
-abbrev pub or_else : Option LoadFault → Option LoadFault → Option LoadFault
-or_else None other = other
-or_else (Some fault) other = Some fault
-
--- the place of the first that passes, counted from i
-abbrev pub first_at : {A : Type 0} → (A → Bool) → ℕ → List A → Option ℕ
-first_at p i [] = None
-first_at p i (x ∷ xs) = if p x then Some i else first_at p (i + 1) xs
 
 abbrev pub fault_at : (ℕ → LoadFault) → Option ℕ → Option LoadFault
 fault_at fault None = None

@@ -1,5 +1,6 @@
 -- One entry is judged at a time.
-use Rattle.std.specs.Prelude.{◌≡◌, ℕ, zero, suc, ◌-◌, Bool, true, false, List, [], ◌∷◌, Option, Some, None, cond}
+use Rattle.std.specs.Prelude.{ℕ, zero, suc, ◌-◌, List, [], ◌∷◌, Option, Some, None, cond}
+use Rattle.std.specs.Option.{option_and_then}
 use Rattle.avm_model.specs.Rerun.{Stand}
 use Rattle.avm_model.specs.Timed.{Timed, Entry, given, made, entry_count, takes}
 
@@ -41,11 +42,7 @@ settled m (given i) k = accept m i k.state k.pending
 abbrev pub judge : {S I O : Type 0} → Timed S I O → Stand S O → Entry I O → Option (Stand S O)
 judge m j e = settled m e (settle m (entry_count m e) j.state j.pending)
 
-abbrev pub and_then : {A B : Type 0} → Option A → (A → Option B) → Option B
-and_then None f = None
-and_then (Some a) f = f a
-
 -- the stand after all entries, or none where one is a fault
 abbrev pub judge_all : {S I O : Type 0} → Timed S I O → Stand S O → List (Entry I O) → Option (Stand S O)
 judge_all m j [] = Some j
-judge_all m j (e ∷ es) = and_then (judge m j e) (λ k. judge_all m k es)
+judge_all m j (e ∷ es) = option_and_then (λ k. judge_all m k es) (judge m j e)

@@ -1,3 +1,4 @@
+pub mod Basics
 pub mod Hash
 pub mod Word
 pub mod Decode

@@ -1,5 +1,5 @@
 -- Authenticators against a chain of hashes (docs/FORMATS.md, "The chain" and "Authenticators").
-use Rattle.std.specs.Prelude.{ℕ, ◌+◌, ◌==◌, ◌&&◌, nat_lt, Bool, true, false, List, [], ◌∷◌, Option, Some, None, if◌then◌else◌, map}
+use Rattle.std.specs.Prelude.{ℕ, ◌+◌, ◌==◌, ◌&&◌, nat_lt, Bool, true, false, List, [], ◌∷◌, Option, Some, None, if◌then◌else◌}
 use Rattle.std.specs.Str.{bytes_eq}
 use Rattle.avm_model.specs.Frame.{FrameData}
 use Rattle.avm_model.specs.Chain.{next_hash}

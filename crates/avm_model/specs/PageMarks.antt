@@ -1,5 +1,5 @@
 -- What a write does to a RAM with a mark for each page.
-use Rattle.std.specs.Prelude.{◌≡◌, ℕ, ◌<◌, Bool, false, length, get_or}
+use Rattle.std.specs.Prelude.{◌≡◌, ℕ, ◌<◌, false, length, get_or}
 use Rattle.avm_model.specs.Memory.{RamState}
 use Rattle.avm_model.specs.Pages.{page_of}
 

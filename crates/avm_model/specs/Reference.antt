@@ -1,5 +1,5 @@
 -- The reference machine, as a log of entries sees it: its inputs and outputs carry their counts.
-use Rattle.std.specs.Prelude.{◌≡◌, ℕ, ◌==◌, ◌&&◌, Bool, true, false, List, [], ◌∷◌, ◌++◌, map, length, Option, Some, None, if◌then◌else◌}
+use Rattle.std.specs.Prelude.{◌≡◌, ℕ, ◌==◌, ◌&&◌, Bool, false, List, ◌∷◌, ◌++◌, map, length, Option, Some, None, if◌then◌else◌}
 use Rattle.std.specs.Str.{bytes_eq}
 use Rattle.avm_model.specs.Machine.{State, Output, Out, Send, Halt, Snap, Step, Stepped, can_step}
 use Rattle.avm_model.specs.Offer.{Offer, OfferConsole, OfferClock, OfferData, OfferAck, refused, taken}
@@ -7,7 +7,7 @@ use Rattle.avm_model.specs.Root.{root}
 use Rattle.avm_model.specs.Content.{ContentData, boot, snap, conin, clock, recv, acked, out, send, halt, content_at}
 use Rattle.avm_model.specs.Frame.{FrameData}
 use Rattle.avm_model.specs.Timed.{Timed, Entry, given, made}
-use Rattle.avm_model.specs.Rerun.{Stand, Replays, IsFirstFault}
+use Rattle.avm_model.specs.Rerun.{Replays, IsFirstFault}
 use Rattle.avm_model.specs.declared.NotTaken.{NotTaken}
 
 -- an input, with the count at which it is applied

@@ -1,5 +1,5 @@
 -- The run of a machine over its inputs.
-use Rattle.std.specs.Prelude.{◌≡◌, ℕ, zero, suc, ◌-◌, ◌<◌, ◌≤◌, length, take, List, [], ◌∷◌, ◌++◌, map, Option, Some, None}
+use Rattle.std.specs.Prelude.{◌≡◌, ℕ, zero, suc, ◌-◌, ◌<◌, ◌≤◌, length, take, List, [], ◌∷◌, ◌++◌, Option, Some, None}
 use Rattle.avm_model.specs.Timed.{Timed, Entry, given, made, inputs, last_count, takes}
 
 -- a state, and outputs of its last step

@@ -8,7 +8,7 @@ use Rattle.avm_model.specs.Memory.{IsRam}
 use Rattle.avm_model.specs.Pages.{depth_of}
 use Rattle.avm_model.proofs.PageDepth.{power_is}
 use Rattle.page_tree.specs.Nodes.{marked, dirty_pages, AreMarks}
-use Rattle.avm_model.specs.Entries.{flag}
+use Rattle.avm_model.specs.Basics.{flag}
 
 marked_parts : (marks : List Bool) (i a b c : ℕ) → c ≡ a + b → marked marks i c ≡ marked marks i a + marked marks (i + a) b
 marked_parts marks i zero b c e =

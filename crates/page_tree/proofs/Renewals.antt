@@ -6,7 +6,7 @@ use Rattle.avm_model.specs.Memory.{RamState}
 use Rattle.avm_model.specs.declared.Digest.{Digest}
 use Rattle.avm_model.specs.Pages.{Hashes}
 use Rattle.page_tree.specs.Nodes.{at, blank, due, touched, marked, Renewing, Building}
-use Rattle.avm_model.specs.Entries.{flag}
+use Rattle.avm_model.specs.Basics.{flag}
 
 due_set : (h : Hashes) (bytes : List ℕ) (n : ℕ) (nodes : List Digest) (p : ℕ) (x : Digest) (j : ℕ) → (2 * j ≡ p → ⊥) → (2 * j + 1 ≡ p → ⊥) → due h bytes n (slice_set nodes p x) j ≡ due h bytes n nodes j
 due_set h bytes n nodes p x j a b = rw (get_or-set_other nodes p (2 * j) x blank a, get_or-set_other nodes p (2 * j + 1) x blank b) refl

@@ -1,6 +1,6 @@
 ghost use Rattle.std.specs.Prelude.{◌≡◌, ◌+◌, ◌*◌, ◌<◌, ◌-◌, length, replicate, false, slice_set, if◌then◌else◌};
 ghost use Rattle.page_tree.specs.Nodes.{due, touched, marked, at, blank, IsTree, IsStale, AreMarks};
-ghost use Rattle.avm_model.specs.Entries.{flag};
+ghost use Rattle.avm_model.specs.Basics.{flag};
 
 use crate::hash::PageHash;
 use avm_hash::Digest;

@@ -5,7 +5,8 @@ use Rattle.avm_num.specs.Bytes.{IsBytes}
 use Rattle.avm_num.specs.Lists.{be, one, sized_bytes}
 use Rattle.avm_model.specs.Packet.{PacketData, packet_bytes, packet_at, data_at, ack_bytes, ack_at}
 use Rattle.log_entry.proofs.PacketLaws.{whole_data, whole_ack}
-use Rattle.peer_packet.specs.Parcel.{Parcel, data_parcel, ack_parcel, parcel_bytes, FitsParcel, or_else, parcel_at}
+use Rattle.avm_model.specs.Basics.{or_else}
+use Rattle.peer_packet.specs.Parcel.{Parcel, data_parcel, ack_parcel, parcel_bytes, FitsParcel, parcel_at}
 use Rattle.peer_packet.specs.declared.packet.Packet.{Packet}
 use Rattle.peer_packet.specs.Views.{packet_view}
 

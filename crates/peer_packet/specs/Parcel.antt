@@ -1,5 +1,6 @@
 -- A packet of either kind (docs/FORMATS.md, "Packets").
 use Rattle.std.specs.Prelude.{ℕ, List, Option, Some, None, option_map}
+use Rattle.avm_model.specs.Basics.{or_else}
 use Rattle.avm_model.specs.Packet.{PacketData, data_bytes, FitsData, data_at, ack_bytes, FitsAck, ack_at}
 use Rattle.avm_model.specs.Chain.{committed}
 
@@ -14,11 +15,6 @@ parcel_bytes (ack_parcel p) = ack_bytes p
 abbrev pub FitsParcel : Parcel → Type 0
 FitsParcel (data_parcel p) = FitsData p
 FitsParcel (ack_parcel p) = FitsAck p
-
--- the first that is there
-abbrev pub or_else : {A : Type 0} → Option A → Option A → Option A
-or_else None o = o
-or_else (Some x) o = Some x
 
 -- a DATA packet, or else an ACK packet
 abbrev pub parcel_at : List ℕ → Option Parcel

@@ -1,6 +1,7 @@
 -- One more program header.
 use Rattle.std.proofs.Common.{◌≡◌, ℕ, suc, ◌+◌, ◌-◌, ◌*◌, ◌<◌, Bool, true, false, List, ◌∷◌, Some, None, refl, arith}
-use Rattle.avm_model.specs.Image.{first_at, header_at, headers_at, put_segment, put_segments}
+use Rattle.avm_model.specs.Basics.{first_at}
+use Rattle.avm_model.specs.Image.{header_at, headers_at, put_segment, put_segments}
 use Rattle.avm_model.specs.declared.loading.ProgramHeader.{ProgramHeader}
 
 pub headers_step : (b : List ℕ) (at count i : ℕ) → i < count → headers_at b (at + 32 * i) (count - i) ≡ header_at b (at + 32 * i) ∷ headers_at b (at + 32 * (i + 1)) (count - (i + 1))

@@ -1,7 +1,8 @@
 //! What a file alone shows.
 
 ghost use Rattle.std.specs.Prelude.{◌≡◌, ◌≤◌, ◌+◌, ◌*◌, length, IsTrue, MatchResult, IfNone, Some, None};
-ghost use Rattle.avm_model.specs.Image.{is_elf, is_elf32, is_riscv, is_compressed, has_table, headers_at, first_at, is_bad, elf_fault as elf_fault_lem, file_fault as file_fault_lem};
+ghost use Rattle.avm_model.specs.Basics.{first_at};
+ghost use Rattle.avm_model.specs.Image.{is_elf, is_elf32, is_riscv, is_compressed, has_table, headers_at, is_bad, elf_fault as elf_fault_lem, file_fault as file_fault_lem};
 ghost use Rattle.rv32_loader.specs.File.{IsElfFile};
 
 use crate::header::{half, read_header, word};

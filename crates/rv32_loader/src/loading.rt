@@ -1,7 +1,8 @@
 //! An image is judged whole, and then put into RAM.
 
 ghost use Rattle.std.specs.Prelude.{◌≡◌, ◌≤◌, ◌<◌, ◌+◌, ◌*◌, ◌^◌, length, false, IsTrue, IfNone, IfOk, MatchResult, Some, None};
-ghost use Rattle.avm_model.specs.Image.{headers_at, headers_of, first_at, is_bad, is_outside, is_entry, place_fault as place_fault_lem, load_fault, put_segments, loaded, entry_of};
+ghost use Rattle.avm_model.specs.Basics.{first_at};
+ghost use Rattle.avm_model.specs.Image.{headers_at, headers_of, is_bad, is_outside, is_entry, place_fault as place_fault_lem, load_fault, put_segments, loaded, entry_of};
 ghost use Rattle.rv32_loader.specs.File.{IsElfFile};
 
 use crate::header::{half, read_header, word};

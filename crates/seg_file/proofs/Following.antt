@@ -10,7 +10,8 @@ use Rattle.avm_model.specs.Parts.{ordinal_at}
 use Rattle.avm_model.specs.Frame.{FrameData, frame_at, frames_of}
 use Rattle.avm_num.specs.Walk.{behind_of, is_nil}
 use Rattle.log_entry.proofs.FrameLaws.{frames_behind_some, frames_behind_none, frames_none}
-use Rattle.avm_model.specs.Entries.{begins, follow, flag, snaps, are_entries}
+use Rattle.avm_model.specs.Basics.{flag}
+use Rattle.avm_model.specs.Entries.{begins, follow, snaps, are_entries}
 
 -- a frame's number is below 2^62
 pub frame_seq : (bytes : List ℕ) (p : FrameData × List ℕ) → frame_at bytes ≡ Some p → p.0.seq < 2 ^ 62

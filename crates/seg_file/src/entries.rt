@@ -1,7 +1,8 @@
 ghost use Rattle.std.specs.Prelude.{◌≡◌, ◌==◌, ◌+◌, ◌&&◌, ◌<◌, ◌≤◌, ◌^◌};
 ghost use Rattle.avm_model.specs.Frame.{frame_at, frames_of};
 ghost use Rattle.avm_num.specs.Walk.{behind_of, is_nil};
-ghost use Rattle.avm_model.specs.Entries.{flag, all_zero, begins, follow, are_entries};
+ghost use Rattle.avm_model.specs.Basics.{flag};
+ghost use Rattle.avm_model.specs.Entries.{all_zero, begins, follow, are_entries};
 
 use log_entry::Frames;
 

@@ -1,6 +1,6 @@
 use Rattle.std.proofs.Common.{◌≡◌, ◌≤◌, ◌+◌, ◌^◌, not, length}
 use Rattle.avm_model.specs.Marks.{verifies}
-use Rattle.avm_model.specs.Verdict.{first_at}
+use Rattle.avm_model.specs.Basics.{first_at}
 use Rattle.auditor.proofs.rows.bad_auth.Given as goal
 
 abbrev pub invariant-loop-auth : goal.invariant-loop-auth

@@ -1,5 +1,6 @@
 use Rattle.std.proofs.Common.{◌≡◌, drop}
-use Rattle.avm_model.specs.Verdict.{first_at, conflicts}
+use Rattle.avm_model.specs.Basics.{first_at}
+use Rattle.avm_model.specs.Verdict.{conflicts}
 use Rattle.auditor.proofs.rows.conflict.Given as goal
 
 abbrev pub invariant-loop-i : goal.invariant-loop-i

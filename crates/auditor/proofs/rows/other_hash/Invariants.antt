@@ -1,5 +1,5 @@
 use Rattle.std.proofs.Common.{◌≡◌, drop}
-use Rattle.avm_model.specs.Verdict.{first_at}
+use Rattle.avm_model.specs.Basics.{first_at}
 use Rattle.auditor.specs.Pairs.{are_double}
 use Rattle.auditor.proofs.rows.other_hash.Given as goal
 

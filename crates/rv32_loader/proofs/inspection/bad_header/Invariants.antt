@@ -1,5 +1,6 @@
 use Rattle.std.proofs.Common.{◌≡◌, ◌+◌, ◌-◌, ◌*◌, length}
-use Rattle.avm_model.specs.Image.{first_at, is_bad, headers_at}
+use Rattle.avm_model.specs.Basics.{first_at}
+use Rattle.avm_model.specs.Image.{is_bad, headers_at}
 use Rattle.rv32_loader.proofs.inspection.bad_header.Given as goal
 
 abbrev pub invariant-loop-i : goal.invariant-loop-i

@@ -1,5 +1,6 @@
 use Rattle.std.proofs.Common.{◌≡◌, ◌+◌, ◌-◌, ◌*◌, length, None}
-use Rattle.avm_model.specs.Image.{first_at, is_bad, is_outside, headers_at, put_segments}
+use Rattle.avm_model.specs.Basics.{first_at}
+use Rattle.avm_model.specs.Image.{is_bad, is_outside, headers_at, put_segments}
 use Rattle.rv32_loader.proofs.loading.put_each.Given as goal
 
 abbrev pub invariant-loop-i : goal.invariant-loop-i

@@ -1,5 +1,6 @@
 use Rattle.std.proofs.Common.{arith, ◌≡◌, sym, nat_eq, true}
-use Rattle.avm_model.specs.Entries.{flag, begins}
+use Rattle.avm_model.specs.Basics.{flag}
+use Rattle.avm_model.specs.Entries.{begins}
 use Rattle.seg_file.proofs.Following.{opened}
 use Rattle.seg_file.proofs.entries.entries_fit.Goals as goal
 
