@@ -1,5 +1,5 @@
--- A step of a machine at rest leaves it at rest, and uses a pending clock.
-use Rattle.std.proofs.Common.{◌≡◌, ℕ, ◌+◌, ◌-◌, ◌^◌, ◌%◌, ◌≤◌, ◌<◌, refl, sym, subst, arith, Bool, true, false, not, List, [], ◌∷◌, length, Option, Some, None, is_some}
+-- A step of a machine at rest leaves it at rest, and uses a clock that was asked for.
+use Rattle.std.proofs.Common.{◌≡◌, ℕ, ◌+◌, ◌-◌, ◌^◌, ◌%◌, ◌≤◌, ◌<◌, refl, sym, ap, subst, ◌∙◌, arith, Bool, true, false, not, List, [], ◌∷◌, length, Option, Some, None, is_some}
 use Rattle.std.specs.Prelude.{if◌then◌else◌, ◌==◌, nat_le, slice_index}
 use Rattle.std.specs.Option.{option_and_then}
 use Rattle.std.proofs.lemmas.Bool.{and_parts, or_parts}
@@ -13,7 +13,7 @@ use Rattle.avm_model.specs.Bounds.{none_past, has_ten, suits}
 use Rattle.avm_model.specs.HeadState.{data_of}
 use Rattle.avm_model.specs.Device.{DeviceState, idle}
 use Rattle.avm_model.specs.Exec.{Outcome, Goes, Waits, Stops, bus_after, load, run_word, run_inst}
-use Rattle.avm_model.specs.Machine.{State, Board, board, board_of, flat, exec_flat, is_complete, loads_clock, next_inst, is_running, asks, stepped, Step}
+use Rattle.avm_model.specs.Machine.{State, MachineState, Board, board, board_of, flat, exec_flat, is_complete, loads_clock, next_inst, is_running, asks, stepped, Step}
 use Rattle.avm_model.specs.declared.Peer.{Peer}
 use Rattle.avm_model.specs.declared.Status.TheVariants.{Running, Waiting}
 use Rattle.avm_model.specs.declared.LoadOp.TheVariants.{Lb, Lh, Lw, Lbu, Lhu}
@@ -22,7 +22,7 @@ use Rattle.avm_model.specs.declared.Inst.TheVariants.{Lui, Auipc, Jal, Jalr, Bra
 use Rattle.guest_machine.specs.Rest.{IsAtRest}
 use Rattle.guest_machine.proofs.Moves.{none_past_more, Moves, exec_moves}
 
--- ---- a pending clock is used
+-- ---- a clock that was asked for is used
 
 -- the next instruction loads the clock, and the devices have one
 used : (h : HartState) (b : Board) (value rd rs1 imm : ℕ) → b.devices.clock ≡ Some value → (a : ℕ) → a ≡ 0x10000008 → (bus_after b (load (board flat) h b Lw rd a)).devices.clock ≡ None
@@ -58,11 +58,11 @@ unfolding exec_flat
 clock_used s value some asked =
     used_word s.hart (board_of s) value (ram_load s.ram s.hart.pc 4) some (and_parts (is_running s.status) (loads_clock s.hart (next_inst s)) asked).1
 
-clock_gone : (s : State) → IsAtRest s → (bus_after (board_of s) (exec_flat s.hart (board_of s))).devices.clock ≡ None
-clock_gone s rest = go s.devices.clock refl
+clock_gone : (s : State) → (is_some s.devices.clock ≡ true → asks s ≡ true) → (bus_after (board_of s) (exec_flat s.hart (board_of s))).devices.clock ≡ None
+clock_gone s wanted = go s.devices.clock refl
   where
     go : (o : Option ℕ) → s.devices.clock ≡ o → (bus_after (board_of s) (exec_flat s.hart (board_of s))).devices.clock ≡ None
-    go (Some value) is = clock_used s value is (rest.clock (rw is refl))
+    go (Some value) is = clock_used s value is (wanted (rw is refl))
     go None is = (exec_moves s.hart (board_of s)).devices.clock is
 
 -- ---- a step
@@ -89,15 +89,12 @@ line_none l = go (length l == 0) refl
     go true is = is
     go false is = refl
 
-no_clock : {P : Type 0} (o : Option ℕ) → o ≡ None → is_some o ≡ true → P
-no_clock o none some = cc
-
 suited_after : (d : DeviceState) (waits : Bool) (s : State) → (waits ≡ true → idle d ≡ true) → s.devices.console ≡ d.console → s.devices.messages ≡ d.messages → suits (if waits then Waiting else Running) (data_of s).queues ≡ true
 suited_after d true s h console messages = rw (console, messages) (h refl)
 suited_after d false s h console messages = refl
 
-rest_after : (s : State) (o : Outcome Board) → IsAtRest s → s.count < 2 ^ 62 - 1 → Moves (board_of s) (bus_after (board_of s) o) → (bus_after (board_of s) o).devices.clock ≡ None → IsAtRest (stepped s o).state
-rest_after s (Goes h b) rest room moves gone = record {
+rest_after : (s : State) (o : Outcome Board) → IsAtRest s → s.count < 2 ^ 62 - 1 → Moves (board_of s) (bus_after (board_of s) o) → IsAtRest (stepped s o).state
+rest_after s (Goes h b) rest room moves = record {
   snap_least = rest.snap_least;
   snap_most = rest.snap_most;
   count = omega arith;
@@ -105,9 +102,8 @@ rest_after s (Goes h b) rest room moves gone = record {
   line = line_short b.devices.line (is_complete b.devices.line) (short b.devices.line);
   text = line_text b.devices.line (is_complete b.devices.line) (moves.devices.line rest.text);
   suited = suited_after b.devices b.waits (stepped s (Goes h b)).state (moves.waits refl) refl refl;
-  clock = no_clock b.devices.clock gone;
 }
-rest_after s (Stops cause value) rest room moves gone = record {
+rest_after s (Stops cause value) rest room moves = record {
   snap_least = rest.snap_least;
   snap_most = rest.snap_most;
   count = omega arith;
@@ -115,22 +111,23 @@ rest_after s (Stops cause value) rest room moves gone = record {
   line = line_short s.devices.line (not (length s.devices.line == 0)) (λ _. rest.line);
   text = line_text s.devices.line (not (length s.devices.line == 0)) (λ _. rest.text);
   suited = line_none s.devices.line;
-  clock = no_clock s.devices.clock gone;
 }
-rest_after s Waits rest room moves gone = rest
+rest_after s Waits rest room moves = rest
 
 pub rest_step : (s : State) → IsAtRest s → s.count < 2 ^ 62 - 1 → IsAtRest (Step s).state
 rest_step s rest room =
-    rest_after s (exec_flat s.hart (board_of s)) rest room (exec_moves s.hart (board_of s)) (clock_gone s rest)
+    rest_after s (exec_flat s.hart (board_of s)) rest room (exec_moves s.hart (board_of s))
 
 none_after : (s : State) (o : Outcome Board) → (bus_after (board_of s) o).devices.clock ≡ None → (stepped s o).state.devices.clock ≡ None
 none_after s (Goes h b) gone = gone
 none_after s (Stops cause value) gone = gone
 none_after s Waits gone = gone
 
--- no clock is pending behind a step
-pub step_clock : (s : State) → IsAtRest s → (Step s).state.devices.clock ≡ None
-step_clock s rest = none_after s (exec_flat s.hart (board_of s)) (clock_gone s rest)
+-- no clock that was asked for is pending behind a step
+pub step_clock : (m n : MachineState) (t : State) → m ≡ n → t ≡ (Step m.state).state → (is_some n.state.devices.clock ≡ true → asks n.state ≡ true) → t.devices.clock ≡ None
+step_clock m n t same is wanted =
+    let before : is_some m.state.devices.clock ≡ true → asks m.state ≡ true = subst (λ (k : MachineState). is_some k.state.devices.clock ≡ true → asks k.state ≡ true) (sym same) wanted in
+    ap (λ (s : State). s.devices.clock) is ∙ none_after m.state (exec_flat m.state.hart (board_of m.state)) (clock_gone m.state before)
 
 -- each count of messages is below a bound on the steps
 pub all_below : (n m : ℕ) (ps : List Peer) → none_past n ps ≡ true → n < m → All (λ p. p.sent < m) ps

@@ -1,6 +1,6 @@
 //! The machine: its parts, and what they are between two steps.
 
-ghost use Rattle.std.specs.Prelude.{◌≡◌, true, None, is_some};
+ghost use Rattle.std.specs.Prelude.{◌≡◌, true, None};
 ghost use Rattle.std.specs.Borrow.{sem};
 ghost use Rattle.avm_model.specs.Bounds.{is_head};
 ghost use Rattle.avm_model.specs.DeviceBounds.{IsDevices};
@@ -84,10 +84,9 @@ impl Machine {
         }
     }
 
-    /// Tells the bounds that every machine is in: those of a head, and a pending clock is one that the machine asked for.
+    /// Tells the bounds that every machine is in: those of a head.
     pub fn bounds(&self)
         ensures head { is_head (data_of self.now.state) ≡ true }
-        ensures clock { is_some self.now.state.devices.clock ≡ true → asks self.now.state ≡ true }
         ensures ram { IsRam self.now.state.ram self.now.dirty }
         ensures devices { IsDevices self.now.state.devices }
     {
@@ -110,9 +109,8 @@ impl Machine {
         self.board.ram()
     }
 
-    /// Lends the RAM, where no clock is pending; the machine is then the one with what the RAM becomes.
+    /// Lends the RAM; the machine is then the one with what the RAM becomes.
     pub fn ram_mut(&mut self) -> &mut Ram
-        requires { self.old.state.devices.clock ≡ None }
         ensures* lends { sem 𝓛 (LendsRam self.entry result) }
         ensures value { result.now ≡ record { bytes = self.old.state.ram; dirty = self.old.dirty } }
     {

@@ -1,7 +1,7 @@
 //! One step.
 
-ghost use Rattle.std.specs.Prelude.{◌≡◌, ◌<◌, ◌-◌, ◌^◌, true, None, if◌then◌else◌};
-ghost use Rattle.avm_model.specs.Machine.{Step, can_step};
+ghost use Rattle.std.specs.Prelude.{◌≡◌, ◌<◌, ◌-◌, ◌^◌, true, None, is_some, if◌then◌else◌};
+ghost use Rattle.avm_model.specs.Machine.{Step, asks, can_step};
 ghost use Rattle.avm_model.specs.PageMarks.{MarksPages};
 ghost use Rattle.guest_machine.specs.Outs.{outs_list};
 
@@ -25,14 +25,14 @@ fn status_after(waits: bool) -> Status
 }
 
 impl Machine {
-    /// Makes one step of a machine that can make one, whose count is below 2 ^ 62 - 1. No clock is pending after it, and
-    /// each page whose bytes it changed is marked.
+    /// Makes one step of a machine that can make one, whose count is below 2 ^ 62 - 1. It uses a clock that the machine
+    /// asked for, and marks each page whose bytes it changes.
     pub fn step(&mut self) -> Outs
         requires can { can_step self.old.state ≡ true }
         requires room { self.old.state.count < 2 ^ 62 - 1 }
         ensures state { self.new.state ≡ (Step self.old.state).state }
         ensures outs { outs_list result self.new.state.devices.window ≡ (Step self.old.state).outs }
-        ensures clock { self.new.state.devices.clock ≡ None }
+        ensures clock { (is_some self.old.state.devices.clock ≡ true → asks self.old.state ≡ true) → self.new.state.devices.clock ≡ None }
         ensures marks { MarksPages (record { bytes = self.old.state.ram; dirty = self.old.dirty }) (record { bytes = self.new.state.ram; dirty = self.new.dirty }) }
     {
         match run_on(&mut self.hart, &mut self.board) {

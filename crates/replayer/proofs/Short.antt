@@ -1,5 +1,5 @@
 -- An entry costs at most K steps.
-use Rattle.std.proofs.Common.{◌≡◌, ℕ, ◌+◌, ◌≤◌, ◌<◌, true, None, List, refl, subst, arith}
+use Rattle.std.proofs.Common.{◌≡◌, ℕ, ◌+◌, ◌≤◌, ◌<◌, true, List, subst, arith}
 use Rattle.avm_model.specs.Bounds.{is_head}
 use Rattle.avm_model.specs.HeadState.{data_of}
 use Rattle.avm_model.specs.Machine.{State}
@@ -9,11 +9,10 @@ use Rattle.avm_model.specs.Reference.{Made, timed}
 use Rattle.avm_model.proofs.ReferenceShort.{reference_short}
 use Rattle.guest_machine.proofs.Heads.{head_rest}
 
--- K is not 0, whether a clock is pending or not
+-- K is not 0
 snap_some : (s : State) → is_head (data_of s) ≡ true → 0 < s.snap
 snap_some s head =
-    let rest = head_rest (record s { devices = record s.devices { clock = None } }) head refl in
-    let least = rest.snap_least in
+    let least = (head_rest s head).snap_least in
     omega arith
 
 pub settled_short : (s : State) (os : List Made) (c : ℕ) (k : Stand State Made) → is_head (data_of s) ≡ true → settle timed c s os ≡ k → k.state.count ≤ s.count + s.snap

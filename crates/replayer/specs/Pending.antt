@@ -1,5 +1,5 @@
 -- The outputs of the last step that no entry has matched yet.
-use Rattle.std.specs.Prelude.{◌≡◌, ℕ, true, false, None, List, [], map}
+use Rattle.std.specs.Prelude.{◌≡◌, ℕ, List, [], map}
 use Rattle.avm_model.specs.Machine.{State, MachineState}
 use Rattle.avm_model.specs.Memory.{RamState}
 use Rattle.avm_model.specs.Rerun.{Stand}
@@ -18,11 +18,6 @@ stand_of s o = record { state = s; pending = pending_of s o }
 abbrev pub ram_of : MachineState → RamState
 ram_of m = record { bytes = m.state.ram; dirty = m.dirty }
 
--- where a snapshot is pending, no clock is
-abbrev pub IsCalm : State → Outs → Type 0
-IsCalm s o = o.snap ≡ true → s.devices.clock ≡ None
-
 -- no output is left
 pub record IsEmpty (o : Outs) : Type 0 where
   pub list : (window : List ℕ) → outs_list o window ≡ []
-  pub snap : o.snap ≡ false

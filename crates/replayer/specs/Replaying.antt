@@ -8,7 +8,7 @@ use Rattle.avm_model.specs.Rerun.{Stand}
 use Rattle.avm_model.specs.Reference.{Made}
 use Rattle.avm_model.specs.declared.Digest.{Digest}
 use Rattle.page_tree.specs.Nodes.{IsStale}
-use Rattle.replayer.specs.Pending.{stand_of, ram_of, IsCalm}
+use Rattle.replayer.specs.Pending.{stand_of, ram_of}
 use Rattle.replayer.specs.declared.replay.Replay.TheInside.{Inside}
 
 pub record Replaying : Type 0 where
@@ -21,7 +21,6 @@ abbrev pub replaying_of : Inside → Replaying
 replaying_of r = record
     { stand = stand_of r.machine.state r.pending; dirty = r.machine.dirty; nodes = r.tree; fault = r.fault }
 
--- the tree is one that can be renewed, and where a snapshot is pending, no clock is
+-- the tree is one that can be renewed
 pub record IsReplay (r : Inside) : Type 0 where
   pub stale : IsStale sha_hashes (ram_of r.machine) r.tree
-  pub calm : IsCalm r.machine.state r.pending

@@ -7,7 +7,7 @@ ghost use Rattle.avm_model.specs.Pages.{sha_hashes};
 ghost use Rattle.avm_model.specs.Reference.{timed, entry_of_content, SnapAt};
 ghost use Rattle.log_entry.specs.Views.{content_view};
 ghost use Rattle.page_tree.specs.Nodes.{IsStale};
-ghost use Rattle.replayer.specs.Pending.{pending_of, stand_of, ram_of, IsCalm};
+ghost use Rattle.replayer.specs.Pending.{pending_of, stand_of, ram_of};
 
 use crate::pending::{match_halt, match_out, match_send};
 use crate::settling::settle;
@@ -42,12 +42,10 @@ fn match_snap(
     count: u64,
     root: &[u8; 32],
 ) -> bool
-    requires calm { IsCalm machine.old.state pending.old }
     requires stale { IsStale sha_hashes (ram_of machine.old) tree.old }
     ensures judged { MatchBool result (compare timed (SnapAt count root.now) machine.old.state (pending_of machine.old.state pending.old) ≡ Some (stand_of machine.new.state pending.new))
         (compare timed (SnapAt count root.now) machine.old.state (pending_of machine.old.state pending.old) ≡ None) }
     ensures state { machine.new.state ≡ machine.old.state }
-    ensures calm { IsCalm machine.new.state pending.new }
     ensures stale { IsStale sha_hashes (ram_of machine.new) tree.new }
 {
     if pending.line.len != 0 || pending.sent.is_some() || pending.halt.is_some() || !pending.snap {
@@ -62,11 +60,9 @@ fn match_snap(
 
 /// Judges an entry where the machine has made the steps up to it.
 fn settled(machine: &mut Machine, tree: &mut Tree, pending: &mut Outs, content: Content<'_>) -> bool
-    requires calm { IsCalm machine.old.state pending.old }
     requires stale { IsStale sha_hashes (ram_of machine.old) tree.old }
     ensures judged { MatchBool result (settled_lem timed (entry_of_content (content_view content.entry)) (stand_of machine.old.state pending.old) ≡ Some (stand_of machine.new.state pending.new))
         (settled_lem timed (entry_of_content (content_view content.entry)) (stand_of machine.old.state pending.old) ≡ None) }
-    ensures calm { IsCalm machine.new.state pending.new }
     ensures stale { IsStale sha_hashes (ram_of machine.new) tree.new }
     ensures count { machine.new.state.count ≡ machine.old.state.count }
 {
@@ -120,11 +116,9 @@ pub fn judge(
     content: Content<'_>,
 ) -> bool
     requires count { count_of_lem (content_view content) < 2 ^ 62 }
-    requires calm { IsCalm machine.old.state pending.old }
     requires stale { IsStale sha_hashes (ram_of machine.old) tree.old }
     ensures judged { MatchBool result (judge_lem timed (stand_of machine.old.state pending.old) (entry_of_content (content_view content.entry)) ≡ Some (stand_of machine.new.state pending.new))
         (judge_lem timed (stand_of machine.old.state pending.old) (entry_of_content (content_view content.entry)) ≡ None) }
-    ensures calm { IsCalm machine.new.state pending.new }
     ensures stale { IsStale sha_hashes (ram_of machine.new) tree.new }
     ensures short { machine.new.state.count ≤ machine.old.state.count + machine.old.state.snap }
 {

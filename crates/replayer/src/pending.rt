@@ -58,7 +58,6 @@ fn payload<'a>(sent: &Sent, window: &'a [u8; 1024]) -> &'a [u8]
 pub fn match_out(machine: &Machine, pending: &mut Outs, count: u64, bytes: &[u8]) -> bool
     ensures judged { MatchBool result (compare timed (OutAt count bytes.now) machine.now.state (pending_of machine.now.state pending.old) ≡ Some (stand_of machine.now.state pending.new))
         (compare timed (OutAt count bytes.now) machine.now.state (pending_of machine.now.state pending.old) ≡ None) }
-    ensures snap { pending.new.snap ≡ pending.old.snap }
 {
     if pending.line.len == 0 || machine.count() != count || line_bytes(&pending.line) != bytes {
         return false;
@@ -78,7 +77,6 @@ pub fn match_send(
 ) -> bool
     ensures judged { MatchBool result (compare timed (SendAt count peer number bytes.now) machine.now.state (pending_of machine.now.state pending.old) ≡ Some (stand_of machine.now.state pending.new))
         (compare timed (SendAt count peer number bytes.now) machine.now.state (pending_of machine.now.state pending.old) ≡ None) }
-    ensures snap { pending.new.snap ≡ pending.old.snap }
 {
     let Some(sent) = pending.sent else {
         return false;
@@ -101,7 +99,6 @@ pub fn match_send(
 pub fn match_halt(machine: &Machine, pending: &mut Outs, count: u64, cause: u32, value: u32) -> bool
     ensures judged { MatchBool result (compare timed (HaltAt count cause value) machine.now.state (pending_of machine.now.state pending.old) ≡ Some (stand_of machine.now.state pending.new))
         (compare timed (HaltAt count cause value) machine.now.state (pending_of machine.now.state pending.old) ≡ None) }
-    ensures snap { pending.new.snap ≡ pending.old.snap }
 {
     let Some(halt) = pending.halt else {
         return false;

@@ -4,7 +4,7 @@ ghost use Rattle.std.specs.Prelude.{◌≡◌, ◌<◌, ◌-◌, ◌+◌, ◌≤
 ghost use Rattle.avm_model.specs.Judge.{settle as settle_lem};
 ghost use Rattle.avm_model.specs.PageMarks.{MarksPages};
 ghost use Rattle.avm_model.specs.Reference.{timed, step_of};
-ghost use Rattle.replayer.specs.Pending.{pending_of, stand_of, ram_of, IsCalm};
+ghost use Rattle.replayer.specs.Pending.{pending_of, stand_of, ram_of};
 
 use crate::pending::is_empty;
 use guest_machine::{Machine, Outs};
@@ -16,7 +16,6 @@ fn try_step(machine: &mut Machine) -> Option<Outs>
     ensures some { IfSome result (λ o. step_of machine.old.state ≡ Some (machine.new.state, pending_of machine.new.state o)) }
     ensures none { IfNone result (step_of machine.old.state ≡ None) }
     ensures same { IfNone result (machine.new ≡ machine.old) }
-    ensures clock { IfSome result (λ _. machine.new.state.devices.clock ≡ None) }
     ensures marks { MarksPages (ram_of machine.old) (ram_of machine.new) }
 {
     if !machine.can_step() {
@@ -28,9 +27,7 @@ fn try_step(machine: &mut Machine) -> Option<Outs>
 /// Steps until there is an output, or the count is reached, or no step can be made.
 fn advance(machine: &mut Machine, pending: &mut Outs, count: u64)
     requires count { count < 2 ^ 62 }
-    requires calm { IsCalm machine.old.state pending.old }
     ensures stand { settle_lem timed count machine.old.state (pending_of machine.old.state pending.old) ≡ stand_of machine.new.state pending.new }
-    ensures calm { IsCalm machine.new.state pending.new }
     ensures marks { MarksPages (ram_of machine.old) (ram_of machine.new) }
 {
     if !is_empty(pending) {
@@ -51,9 +48,7 @@ fn advance(machine: &mut Machine, pending: &mut Outs, count: u64)
 /// snapshot comes at each multiple of K.
 pub fn settle(machine: &mut Machine, pending: &mut Outs, count: u64)
     requires count { count < 2 ^ 62 }
-    requires calm { IsCalm machine.old.state pending.old }
     ensures stand { settle_lem timed count machine.old.state (pending_of machine.old.state pending.old) ≡ stand_of machine.new.state pending.new }
-    ensures calm { IsCalm machine.new.state pending.new }
     ensures marks { MarksPages (ram_of machine.old) (ram_of machine.new) }
     ensures short { machine.new.state.count ≤ machine.old.state.count + machine.old.state.snap }
 {

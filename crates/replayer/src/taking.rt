@@ -7,7 +7,7 @@ ghost use Rattle.avm_model.specs.Offer.{OfferConsole, OfferClock, refused, taken
 ghost use Rattle.avm_model.specs.Reference.{timed, take_of};
 ghost use Rattle.guest_machine.specs.Given.{refusal_of};
 ghost use Rattle.replayer.specs.Incoming.{offer_of, given_at};
-ghost use Rattle.replayer.specs.Pending.{pending_of, stand_of, ram_of, IsCalm};
+ghost use Rattle.replayer.specs.Pending.{pending_of, stand_of, ram_of};
 ghost use Rattle.replayer.specs.Taking.{machine_taken};
 
 use crate::offering::{take_ack, take_data};
@@ -70,10 +70,8 @@ fn take_at(machine: &mut Machine, count: u64, input: Incoming<'_>) -> bool
 
 /// Takes an input at its count, where no output is pending.
 pub fn accept_input(machine: &mut Machine, pending: &Outs, count: u64, input: Incoming<'_>) -> bool
-    requires calm { IsCalm machine.old.state pending.now }
     ensures judged { MatchBool result (accept timed (given_at count input.entry) machine.old.state (pending_of machine.old.state pending.now) ≡ Some (stand_of machine.new.state pending.now))
         (accept timed (given_at count input.entry) machine.old.state (pending_of machine.old.state pending.now) ≡ None) }
-    ensures calm { IsCalm machine.new.state pending.now }
     ensures ram { ram_of machine.new ≡ ram_of machine.old }
     ensures count { machine.new.state.count ≡ machine.old.state.count }
 {

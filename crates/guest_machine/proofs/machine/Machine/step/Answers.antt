@@ -1,5 +1,5 @@
 use Rattle.std.proofs.Common.{◌≡◌, ◌∙◌, ◌-◌, ◌^◌, ◌<◌, sym, ap, subst, arith, rules}
-use Rattle.avm_model.specs.Machine.{BoardOf, MachineState, State, Step}
+use Rattle.avm_model.specs.Machine.{BoardOf, MachineState, Step}
 use Rattle.avm_model.specs.Memory.{RamState}
 use Rattle.avm_model.specs.declared.Status.TheVariants.{Halted}
 use Rattle.guest_machine.specs.Machine.{machine_of, state_from}
@@ -41,19 +41,19 @@ invariant_of-self-in-Halt c =
     }
 
 pub returns-in-Asks-clause-clock : goal.returns-in-Asks-clause-clock
-returns-in-Asks-clause-clock c =
+returns-in-Asks-clause-clock c wanted =
     let i = c.self.inside in
     let equal : state_from c.run_on.new.hart c.run_on.new.board.ram.bytes c.run_on.new.board.devices i.snap i.count i.status ≡ (Step (machine_of i).state).state = search rules in
-    ap (λ (s : State). s.devices.clock) equal ∙ step_clock (machine_of i).state c.self.invariant.rest
+    step_clock (machine_of i) _ _ c.self.view_is equal wanted
 
 pub returns-in-Done-clause-clock : goal.returns-in-Done-clause-clock
-returns-in-Done-clause-clock c =
+returns-in-Done-clause-clock c wanted =
     let i = c.self.inside in
     let equal : state_from c.run_on.new.hart c.finish-sent.new.self.ram.bytes c.finish-sent.new.self.devices i.snap c.count_step-snap.new.count c.status_after-self-inside.result ≡ (Step (machine_of i).state).state = search rules in
-    ap (λ (s : State). s.devices.clock) equal ∙ step_clock (machine_of i).state c.self.invariant.rest
+    step_clock (machine_of i) _ _ c.self.view_is equal wanted
 
 pub returns-in-Halt-clause-clock : goal.returns-in-Halt-clause-clock
-returns-in-Halt-clause-clock c =
+returns-in-Halt-clause-clock c wanted =
     let i = c.self.inside in
     let equal : state_from c.run_on.new.hart c.halt-line.new.self.ram.bytes c.halt-line.new.self.devices i.snap c.count_step-snap-in-Halt.new.count Halted ≡ (Step (machine_of i).state).state = search rules in
-    ap (λ (s : State). s.devices.clock) equal ∙ step_clock (machine_of i).state c.self.invariant.rest
+    step_clock (machine_of i) _ _ c.self.view_is equal wanted
