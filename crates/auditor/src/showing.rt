@@ -132,7 +132,7 @@ pub fn replay<'a>(
 ) -> Option<Evidence<'a>>
     requires { length auths ≤ 2 ^ 24 }
     ensures { (x : List ℕ) (fs : List FrameData) → All FitsFrame fs → frames.now ≡ list_bytes frame_bytes fs → whole.now ≡ x ++ list_bytes frame_bytes fs
-        → option_map evidence_view result ≡ and_then (λ j. with (λ top. evid.replay key.now (x ++ list_bytes frame_bytes (upto top.seq fs)) top) (slice_get auths.entry j.0)) (cover (map (marked before.now.0 (frames_of frames.now)) auths.entry)) }
+        → option_map evidence_view result ≡ option_and_then (λ j. option_map (λ top. evid.replay key.now (x ++ list_bytes frame_bytes (upto top.seq fs)) top) (slice_get auths.entry j.0)) (cover (map (marked before.now.0 (frames_of frames.now)) auths.entry)) }
 {
     let (j, _) = cover_of_all(before, frames, auths.again())?;
     let top = nth_auth(auths, j)?;
