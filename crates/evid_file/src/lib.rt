@@ -9,3 +9,6 @@ mod writing;
 pub use evidence::Evidence;
 pub use reading::read_evidence;
 pub use writing::write_evidence;
+
+#[cfg(test)]
+mod tests;
