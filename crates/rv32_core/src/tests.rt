@@ -8,7 +8,7 @@ use crate::{Bus, Exec, Got, Hart, Width, exec};
 
 mod cases;
 
-use cases::{CASES, STORES};
+use cases::{ENDS, LOADS, MOVES, RESULTS, STORES};
 
 const PC: u32 = 0x8000_0100;
 
@@ -96,22 +96,54 @@ fn ending(exec: Exec) -> (u32, u32) {
     }
 }
 
+/// The registers, where register `rd` was given a value, unless that is x0.
+fn registers_with(a: u32, b: u32, rd: u32, value: u32) -> [u32; 32] {
+    let mut x = registers(a, b);
+    if rd % 32 != 0 {
+        x[(rd % 32) as usize] = value;
+    }
+    x
+}
+
+/// Whether an instruction leaves these registers and this pc, and ends so.
+fn leaves(cell: &mut Cell, a: u32, b: u32, x: [u32; 32], pc: u32, end: (u32, u32)) -> bool {
+    let mut hart = Hart {
+        x: registers(a, b),
+        pc: PC,
+    };
+    let outcome = exec(&mut hart, cell);
+    ending(outcome) == end && hart.x == x && hart.pc == pc
+}
+
 #[test]
 fn instructions(rt: HostRuntime) {
-    for &(word, a, b, data, rd, value, pc, end, arg) in &CASES {
-        let mut bus = holding(word, data);
-        let mut hart = Hart {
-            x: registers(a, b),
-            pc: PC,
-        };
-        let mut want = registers(a, b);
-        if rd % 32 != 0 {
-            want[(rd % 32) as usize] = value;
-        }
-        let outcome = exec(&mut hart, &mut bus);
-        assert_eq!(rt; ending(outcome), (end, arg), "{word:08x} of {a:x}, {b:x}");
-        assert_eq!(rt; hart.x, want, "{word:08x} of {a:x}, {b:x}");
-        assert_eq!(rt; hart.pc, pc, "{word:08x} of {a:x}, {b:x}");
+    for &(word, a, b, value) in &RESULTS {
+        let x = registers_with(a, b, 3, value);
+        assert!(rt;
+            leaves(&mut holding(word, 0), a, b, x, PC + 4, (0, 0)),
+            "{word:08x} of {a:x}, {b:x}"
+        );
+    }
+    for &(word, a, b, rd, value, pc) in &MOVES {
+        let x = registers_with(a, b, rd, value);
+        assert!(rt;
+            leaves(&mut holding(word, 0), a, b, x, pc, (0, 0)),
+            "{word:08x} of {a:x}, {b:x}"
+        );
+    }
+    for &(word, a, data, rd, value) in &LOADS {
+        let x = registers_with(a, 0, rd, value);
+        assert!(rt;
+            leaves(&mut holding(word, data), a, 0, x, PC + 4, (0, 0)),
+            "{word:08x} of {a:x}"
+        );
+    }
+    for &(word, a, b, data, end, arg) in &ENDS {
+        let x = registers(a, b);
+        assert!(rt;
+            leaves(&mut holding(word, data), a, b, x, PC, (end, arg)),
+            "{word:08x} of {a:x}, {b:x}"
+        );
     }
 }
 
@@ -119,15 +151,13 @@ fn instructions(rt: HostRuntime) {
 fn stores(rt: HostRuntime) {
     for &(word, a, b, address, bytes, value, end, arg) in &STORES {
         let mut bus = holding(word, 0);
-        let mut hart = Hart {
-            x: registers(a, b),
-            pc: PC,
-        };
-        let outcome = exec(&mut hart, &mut bus);
-        assert_eq!(rt; ending(outcome), (end, arg), "{word:08x}");
+        let pc = if end == 0 { PC + 4 } else { PC };
+        assert!(rt;
+            leaves(&mut bus, a, b, registers(a, b), pc, (end, arg)),
+            "{word:08x}"
+        );
         assert_eq!(rt; (bus.address, bus.stored), (address, value), "{word:08x}");
         let width = if bytes == 0 { 1 } else { bytes };
         assert_eq!(rt; bus.width.bytes(), width, "{word:08x}");
-        assert_eq!(rt; hart.x, registers(a, b), "{word:08x}");
     }
 }
