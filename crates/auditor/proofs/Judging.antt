@@ -3,6 +3,7 @@ use Rattle.std.proofs.Common.{◌≡◌, ℕ, ◌^◌, ◌<◌, ◌≤◌, Bool,
 use Rattle.avm_num.specs.Bytes.{IsBytes}
 use Rattle.avm_num.specs.Lists.{list_bytes}
 use Rattle.avm_num.proofs.Numbers.{bind_some}
+use Rattle.avm_model.specs.Entries.{numbered}
 use Rattle.avm_model.specs.Frame.{FitsFrame, frame_bytes}
 use Rattle.avm_model.specs.Auth.{AuthData, FitsAuth, auths_at}
 use Rattle.avm_model.specs.Head.{HeadData}
@@ -13,6 +14,7 @@ use Rattle.avm_model.specs.Holds.{evidence}
 use Rattle.avm_model.specs.declared.judged.Verdict.{Verdict}
 use Rattle.avm_auth.proofs.AuthLaws.{auths_are}
 use Rattle.seg_file.proofs.SegmentLaws.{whole_read}
+use Rattle.auditor.proofs.Cuts.{opens_numbered}
 use Rattle.auditor.proofs.Segments.{Whole, whole_of}
 
 pub read_is : (segment auths : List ℕ) (d : Judged) → judged_of segment auths ≡ Some d → (whole_segment_of segment ≡ Some (d.segment, d.head)) × (auths_within auths ≡ Some d.auths)
@@ -66,7 +68,7 @@ no_segment segment auths d sb none e = absurd (apart d.segment (none ∙ (whole_
     apart s h = cc
 
 pub shown_is : (key segment auths : List ℕ) (s : SegmentData) (xs : List AuthData) (d : Judged) (r : Option EvidData) (v : Verdict) → IsBytes segment → judged_of segment auths ≡ Some d → Some s ≡ segment_of segment → Some xs ≡ auths_at auths
-    → ((h : HeadData) → All FitsFrame (entry_frames s) → s.frames ≡ list_bytes frame_bytes (entry_frames s) → segment ≡ segment_bytes s → r ≡ evidence key (record { segment = s; head = h; auths = xs }) v) → r ≡ evidence key d v
+    → ((h : HeadData) → numbered s.front.start (entry_frames s) ≡ true → All FitsFrame (entry_frames s) → s.frames ≡ list_bytes frame_bytes (entry_frames s) → segment ≡ segment_bytes s → r ≡ evidence key (record { segment = s; head = h; auths = xs }) v) → r ≡ evidence key d v
 shown_is key segment auths s xs d r v sb e ps px f =
     let q = read_is segment auths d e in
     let w = whole_of segment d.segment d.head sb q.0 in
@@ -74,7 +76,8 @@ shown_is key segment auths s xs d r v sb e ps px f =
     let sx : xs ≡ d.auths = same_x xs d.auths (px ∙ (auths_in auths d.auths q.1).1) in
     let all : All FitsFrame (entry_frames s) = subst (λ (z : SegmentData). All FitsFrame (entry_frames z)) (sym ss) w.0.all in
     let spelled : s.frames ≡ list_bytes frame_bytes (entry_frames s) = subst (λ (z : SegmentData). z.frames ≡ list_bytes frame_bytes (entry_frames z)) (sym ss) w.0.spelled in
-    f d.head all spelled (w.1 ∙ ap segment_bytes (sym ss)) ∙ made s xs ss sx
+    let numbers : numbered s.front.start (entry_frames s) ≡ true = subst (λ (z : SegmentData). numbered z.front.start (entry_frames z) ≡ true) (sym ss) (opens_numbered d.segment.front.start d.segment.front.before (entry_frames d.segment) w.0.opens_well) in
+    f d.head numbers all spelled (w.1 ∙ ap segment_bytes (sym ss)) ∙ made s xs ss sx
   where
     same_s : (x y : SegmentData) → Some x ≡ Some y → x ≡ y
     same_s x y h = cc

@@ -17,3 +17,4 @@ pub mod Faults
 pub mod Acceptance
 pub mod Replays
 pub mod Standing
+pub mod Covers

@@ -1,7 +1,8 @@
 // The evidence for a verdict.
-ghost use Rattle.std.specs.Prelude.{◌≡◌, ◌^◌, ◌≤◌, ◌≢◌, List, ℕ, All, length, false, None, Some, is_some, IfSome};
+ghost use Rattle.std.specs.Prelude.{◌≡◌, ◌^◌, ◌≤◌, ◌≢◌, List, ℕ, All, length, true, false, None, Some, is_some, IfSome};
 ghost use Rattle.std.specs.Option.{option_map};
 ghost use Rattle.avm_num.specs.Lists.{list_bytes};
+ghost use Rattle.avm_model.specs.Entries.{numbered};
 ghost use Rattle.avm_model.specs.Frame.{FitsFrame, frame_bytes};
 ghost use Rattle.avm_model.specs.Head.{HeadData};
 ghost use Rattle.avm_model.specs.Segment.{segment_bytes};
@@ -29,7 +30,7 @@ fn shown<'a>(
 ) -> Option<Evidence<'a>>
     requires { length auths ≤ 2 ^ 24 }
     ensures only { has_evidence verdict.now ≡ false → result ≡ None }
-    ensures value { (h : HeadData) → All FitsFrame (entry_frames (segment_view segment.now)) → segment.now.frames.now ≡ list_bytes frame_bytes (entry_frames (segment_view segment.now)) → whole.now ≡ segment_bytes (segment_view segment.now)
+    ensures value { (h : HeadData) → numbered segment.now.start (entry_frames (segment_view segment.now)) ≡ true → All FitsFrame (entry_frames (segment_view segment.now)) → segment.now.frames.now ≡ list_bytes frame_bytes (entry_frames (segment_view segment.now)) → whole.now ≡ segment_bytes (segment_view segment.now)
         → option_map evidence_view result ≡ evidence key.now (record { segment = segment_view segment.now; head = h; auths = auths.entry }) verdict.now }
 {
     match *verdict {

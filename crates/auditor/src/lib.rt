@@ -4,6 +4,7 @@
 mod auditing;
 mod chain_map;
 mod checking;
+mod covering;
 mod evidence;
 mod holding;
 mod judge;
@@ -17,3 +18,6 @@ pub use auditing::audit;
 pub use avm_model::Verdict;
 pub use evidence::evidence_of;
 pub use holding::check;
+
+#[cfg(test)]
+mod tests;

@@ -1,7 +1,8 @@
 // The evidence for a verdict, without memory: it borrows from the segment and the authenticators.
-ghost use Rattle.std.specs.Prelude.{◌≡◌, ℕ, ◌≤◌, ◌+◌, ◌-◌, ◌++◌, ◌^◌, length, take, map, All, List, slice_get};
+ghost use Rattle.std.specs.Prelude.{◌≡◌, ℕ, true, ◌≤◌, ◌+◌, ◌-◌, ◌++◌, ◌^◌, length, take, map, All, List, slice_get};
 ghost use Rattle.std.specs.Option.{option_map};
 ghost use Rattle.avm_num.specs.Lists.{list_bytes};
+ghost use Rattle.avm_model.specs.Entries.{numbered};
 ghost use Rattle.avm_model.specs.Frame.{FrameData, FitsFrame, frame_bytes, frames_of};
 ghost use Rattle.avm_model.specs.Auth.{AuthData};
 ghost use Rattle.avm_model.specs.Evidence as evid;
@@ -12,8 +13,7 @@ ghost use Rattle.avm_auth.specs.Views.{auth_view};
 ghost use Rattle.evid_file.specs.Views.{evidence_view};
 ghost use Rattle.auditor.specs.Table.{bytes_of};
 
-use crate::chain_map::mark;
-use crate::rows::better_of;
+use crate::covering::cover_of_all;
 use avm_auth::{Auth, Auths};
 use avm_model::Digest;
 use evid_file::Evidence;
@@ -45,20 +45,6 @@ pub fn hash_at(before: &Digest, frames: &[u8], seq: u64) -> Option<Digest>
         }
     }
     None
-}
-
-/// The cover.
-fn cover_of_all(before: &Digest, frames: &[u8], auths: Auths<'_>) -> Option<(u32, u64)>
-    requires { length auths ≤ 2 ^ 24 }
-    ensures { result ≡ cover (map (marked before.now.0 (frames_of frames.now)) auths.entry) }
-{
-    let mut best = None;
-    let mut i = 0;
-    for auth in auths {
-        best = better_of(best, i, mark(&auth, hash_at(before, frames, auth.seq)));
-        i += 1;
-    }
-    best
 }
 
 /// The bytes behind the frame of a number.
@@ -131,7 +117,7 @@ pub fn replay<'a>(
     auths: Auths<'a>,
 ) -> Option<Evidence<'a>>
     requires { length auths ≤ 2 ^ 24 }
-    ensures { (x : List ℕ) (fs : List FrameData) → All FitsFrame fs → frames.now ≡ list_bytes frame_bytes fs → whole.now ≡ x ++ list_bytes frame_bytes fs
+    ensures { (n : ℕ) → numbered n (frames_of frames.now) ≡ true → (x : List ℕ) (fs : List FrameData) → All FitsFrame fs → frames.now ≡ list_bytes frame_bytes fs → whole.now ≡ x ++ list_bytes frame_bytes fs
         → option_map evidence_view result ≡ option_and_then (λ j. option_map (λ top. evid.replay key.now (x ++ list_bytes frame_bytes (upto top.seq fs)) top) (slice_get auths.entry j.0)) (cover (map (marked before.now.0 (frames_of frames.now)) auths.entry)) }
 {
     let (j, _) = cover_of_all(before, frames, auths.again())?;

@@ -73,12 +73,31 @@ fn same_auth(a: &Auth<'_>, b: &Auth<'_>) -> bool {
 /// Whether two have one form and the same parts.
 fn same(one: &Evidence<'_>, two: &Evidence<'_>) -> bool {
     match (*one, *two) {
-        (Evidence::Double { key, a, b }, Evidence::Double { key: other, a: c, b: d }) => {
-            key == other && same_auth(&a, &c) && same_auth(&b, &d)
-        }
         (
-            Evidence::Fork { key, start, before, frames, top, other },
-            Evidence::Fork { key: k, start: s, before: h, frames: f, top: t, other: o },
+            Evidence::Double { key, a, b },
+            Evidence::Double {
+                key: other,
+                a: c,
+                b: d,
+            },
+        ) => { key == other && same_auth(&a, &c) && same_auth(&b, &d) }
+        (
+            Evidence::Fork {
+                key,
+                start,
+                before,
+                frames,
+                top,
+                other,
+            },
+            Evidence::Fork {
+                key: k,
+                start: s,
+                before: h,
+                frames: f,
+                top: t,
+                other: o,
+            },
         ) => {
             key == k
                 && start == s
@@ -89,7 +108,11 @@ fn same(one: &Evidence<'_>, two: &Evidence<'_>) -> bool {
         }
         (
             Evidence::Replay { key, segment, top },
-            Evidence::Replay { key: other, segment: bytes, top: last },
+            Evidence::Replay {
+                key: other,
+                segment: bytes,
+                top: last,
+            },
         ) => key == other && segment == bytes && same_auth(&top, &last),
         _ => false,
     }
@@ -142,15 +165,35 @@ fn each_form(rt: HostRuntime) {
         &rt,
         rt.alloc(),
         &double(),
-        &[b"AVME\x01", &KEY, b"\x01", one[0], one[1], one[2], two[0], two[1], two[2]],
+        &[
+            b"AVME\x01",
+            &KEY,
+            b"\x01",
+            one[0],
+            one[1],
+            one[2],
+            two[0],
+            two[1],
+            two[2],
+        ],
     );
     form(
         &rt,
         rt.alloc(),
         &fork(),
         &[
-            b"AVME\x01", &KEY, b"\x02", b"\0\0\0\0\0\0\xff\xff", &[4; 32], b"\0\0\0\x06frames",
-            two[0], two[1], two[2], one[0], one[1], one[2],
+            b"AVME\x01",
+            &KEY,
+            b"\x02",
+            b"\0\0\0\0\0\0\xff\xff",
+            &[4; 32],
+            b"\0\0\0\x06frames",
+            two[0],
+            two[1],
+            two[2],
+            one[0],
+            one[1],
+            one[2],
         ],
     );
     form(
@@ -158,7 +201,13 @@ fn each_form(rt: HostRuntime) {
         rt.alloc(),
         &replay(),
         &[
-            b"AVME\x01", &KEY, b"\x03", b"\0\0\0\x09a segment", one[0], one[1], one[2],
+            b"AVME\x01",
+            &KEY,
+            b"\x03",
+            b"\0\0\0\x09a segment",
+            one[0],
+            one[1],
+            one[2],
         ],
     );
 }
