@@ -1,11 +1,10 @@
 //! One step.
 
-ghost use Rattle.std.specs.Prelude.{◌≡◌, ◌<◌, ◌-◌, ◌^◌, true, None, is_some, if◌then◌else◌};
-ghost use Rattle.avm_model.specs.Machine.{Step, asks, can_step};
+ghost use Rattle.std.specs.Prelude.{◌≡◌, ◌<◌, ◌-◌, ◌^◌, true, None, is_some, if◌then◌else◌, IfSome, IfNone};
+ghost use Rattle.avm_model.specs.Machine.{Step, asks, can_step, is_running as is_running_lem};
 ghost use Rattle.avm_model.specs.PageMarks.{MarksPages};
 ghost use Rattle.guest_machine.specs.Outs.{outs_list};
 
-use crate::line::empty_line;
 use crate::machine::Machine;
 use crate::outs::Outs;
 use crate::run::run_on;
@@ -24,7 +23,56 @@ fn status_after(waits: bool) -> Status
     }
 }
 
+fn is_running(status: Status) -> bool
+    ensures { result ≡ is_running_lem status }
+{
+    match status {
+        Status::Running => true,
+        _ => false,
+    }
+}
+
 impl Machine {
+    /// Makes one step, where the machine can make one; else the machine is as before. The count is below 2 ^ 62 - 1. Each
+    /// page whose bytes change is marked.
+    pub fn try_step(&mut self) -> Option<Outs>
+        requires { self.old.state.count < 2 ^ 62 - 1 }
+        ensures can { is_some result ≡ can_step self.old.state }
+        ensures state { IfSome result (λ _. self.new.state ≡ (Step self.old.state).state) }
+        ensures outs { IfSome result (λ o. outs_list o self.new.state.devices.window ≡ (Step self.old.state).outs) }
+        ensures same { IfNone result (self.new ≡ self.old) }
+        ensures marks { MarksPages (record { bytes = self.old.state.ram; dirty = self.old.dirty }) (record { bytes = self.new.state.ram; dirty = self.new.dirty }) }
+    {
+        if !is_running(self.status) {
+            return None;
+        }
+        match run_on(&mut self.hart, &mut self.board) {
+            Exec::Asks => None,
+            Exec::Done => {
+                let (line, sent, waits) = self.board.finish();
+                self.status = status_after(waits);
+                let snap = count_step(&mut self.count, &mut self.next_snap, self.snap);
+                Some(Outs {
+                    line,
+                    sent,
+                    halt: None,
+                    snap,
+                })
+            }
+            Exec::Halt { cause, value } => {
+                let line = self.board.halt();
+                self.status = Status::Halted;
+                let snap = count_step(&mut self.count, &mut self.next_snap, self.snap);
+                Some(Outs {
+                    line,
+                    sent: None,
+                    halt: Some((cause, value)),
+                    snap,
+                })
+            }
+        }
+    }
+
     /// Makes one step of a machine that can make one, whose count is below 2 ^ 62 - 1. It uses a clock that the machine
     /// asked for, and marks each page whose bytes it changes.
     pub fn step(&mut self) -> Outs
@@ -35,35 +83,9 @@ impl Machine {
         ensures clock { (is_some self.old.state.devices.clock ≡ true → asks self.old.state ≡ true) → self.new.state.devices.clock ≡ None }
         ensures marks { MarksPages (record { bytes = self.old.state.ram; dirty = self.old.dirty }) (record { bytes = self.new.state.ram; dirty = self.new.dirty }) }
     {
-        match run_on(&mut self.hart, &mut self.board) {
-            Exec::Asks => Outs {
-                line: empty_line(),
-                sent: None,
-                halt: None,
-                snap: false,
-            },
-            Exec::Done => {
-                let (line, sent, waits) = self.board.finish();
-                self.status = status_after(waits);
-                let snap = count_step(&mut self.count, &mut self.next_snap, self.snap);
-                Outs {
-                    line,
-                    sent,
-                    halt: None,
-                    snap,
-                }
-            }
-            Exec::Halt { cause, value } => {
-                let line = self.board.halt();
-                self.status = Status::Halted;
-                let snap = count_step(&mut self.count, &mut self.next_snap, self.snap);
-                Outs {
-                    line,
-                    sent: None,
-                    halt: Some((cause, value)),
-                    snap,
-                }
-            }
+        match self.try_step() {
+            Some(outs) => outs,
+            None => unreachable!(),
         }
     }
 }

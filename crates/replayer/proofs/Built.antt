@@ -1,5 +1,5 @@
 -- A tree that was just built can be renewed.
-use Rattle.std.proofs.Common.{◌≡◌, ℕ, Bool, false, List, length, replicate, refl, sym, ap, subst, ◌∙◌}
+use Rattle.std.proofs.Common.{◌≡◌, ℕ, false, List, length, replicate, sym, subst, ◌∙◌}
 use Rattle.std.proofs.lemmas.List.{length-replicate}
 use Rattle.avm_model.specs.Machine.{MachineState}
 use Rattle.avm_model.specs.Memory.{RamState}

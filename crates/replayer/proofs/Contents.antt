@@ -1,5 +1,5 @@
 -- The contents that stand in packets are those of SEND and RECV entries.
-use Rattle.std.proofs.Common.{◌≡◌, ℕ, List, Option, Some, None, refl, sym, ap, ◌∙◌}
+use Rattle.std.proofs.Common.{◌≡◌, ℕ, List, Option, Some, None, refl, ap, ◌∙◌}
 use Rattle.std.specs.Option.{option_map}
 use Rattle.avm_num.specs.Bytes.{◌>>=◌}
 use Rattle.avm_model.specs.Parts.{count_at}

@@ -1,5 +1,5 @@
 -- What is judged of a content is judged of its frame.
-use Rattle.std.proofs.Common.{◌≡◌, ℕ, List, [], ◌∷◌, ◌++◌, Option, Some, None, refl, sym, ap, subst}
+use Rattle.std.proofs.Common.{◌≡◌, List, [], ◌∷◌, ◌++◌, Some, None, sym, ap, subst}
 use Rattle.avm_model.specs.Content.{ContentData, content_at}
 use Rattle.avm_model.specs.Frame.{FrameData}
 use Rattle.avm_model.specs.Machine.{State}

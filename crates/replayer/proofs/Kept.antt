@@ -1,7 +1,6 @@
 -- What an input leaves as it was.
-use Rattle.std.proofs.Common.{◌≡◌, ℕ, List, Option, Some, None, Result, Ok, Err, refl, sym, ap, ◌∙◌}
+use Rattle.std.proofs.Common.{◌≡◌, ℕ, List, Option, Some, None, Result, Ok, Err, refl, ap, ◌∙◌}
 use Rattle.std.specs.Prelude.{OnOk, OnErr}
-use Rattle.avm_model.specs.Memory.{RamState}
 use Rattle.avm_model.specs.Machine.{State, MachineState}
 use Rattle.avm_model.specs.Offer.{Offer, OfferConsole, OfferClock, OfferData, OfferAck, DataIn, AckIn, data_in, ack_in, take_data, take_ack, taken}
 use Rattle.avm_model.specs.declared.NotTaken.{NotTaken}

@@ -1,15 +1,15 @@
 -- Steps without outputs, and the first step with outputs, are what the judge makes.
-use Rattle.std.proofs.Common.{◌≡◌, ℕ, ◌+◌, ◌-◌, ◌<◌, ◌≤◌, Bool, true, false, not, is_some, List, [], ◌∷◌, ◌++◌, map, length, get_or, Option, Some, None, refl, sym, ap, ◌∙◌, arith}
+use Rattle.std.proofs.Common.{◌≡◌, ℕ, ◌+◌, ◌-◌, ◌<◌, Bool, true, false, not, is_some, List, [], ◌∷◌, ◌++◌, map, Option, Some, None, refl, sym, ap, ◌∙◌, arith}
 use Rattle.std.specs.Prelude.{if◌then◌else◌, ◌==◌, ◌&&◌, take}
-use Rattle.avm_model.specs.Machine.{State, Output, Out, Send, Halt, Snap, out_send}
+use Rattle.avm_model.specs.Machine.{State, Output, Out, out_send}
 use Rattle.avm_model.specs.Memory.{RamState}
 use Rattle.avm_model.specs.PageMarks.{MarksPages}
 use Rattle.avm_model.specs.Judge.{quiet, settle}
 use Rattle.avm_model.specs.Reference.{Made, made_of, step_of, timed}
 use Rattle.avm_model.specs.declared.Sent.{Sent}
 use Rattle.avm_model.proofs.ReplayLaws.{settle_past}
-use Rattle.avm_model.proofs.ReferenceLaws.{is_timed, step_counts}
-use Rattle.guest_machine.specs.Outs.{outs_list, halt_list, snap_list}
+use Rattle.avm_model.proofs.ReferenceLaws.{step_counts}
+use Rattle.guest_machine.specs.Outs.{halt_list, snap_list}
 use Rattle.guest_machine.specs.declared.outs.Outs.{Outs}
 use Rattle.replayer.specs.Pending.{pending_of, stand_of, IsEmpty}
 

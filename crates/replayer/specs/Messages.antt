@@ -1,5 +1,5 @@
 -- Packets and the messages in them, without where they lie in memory.
-use Rattle.std.specs.Prelude.{ℕ, List, Bool, Option, Some, None}
+use Rattle.std.specs.Prelude.{List, Bool, Option, Some, None}
 use Rattle.avm_model.specs.Content.{ContentData, boot, snap, conin, clock, recv, acked, out, send, halt}
 use Rattle.avm_model.specs.Packet.{SendData, RecvData}
 use Rattle.avm_model.specs.Offer.{DataIn, AckIn, is_authentic}

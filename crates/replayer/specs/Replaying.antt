@@ -2,7 +2,6 @@
 -- one came.
 use Rattle.std.specs.Prelude.{ℕ, Bool, List, Option}
 use Rattle.avm_model.specs.Machine.{State}
-use Rattle.avm_model.specs.Memory.{RamState}
 use Rattle.avm_model.specs.Pages.{sha_hashes}
 use Rattle.avm_model.specs.Rerun.{Stand}
 use Rattle.avm_model.specs.Reference.{Made}

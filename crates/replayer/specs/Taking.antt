@@ -2,7 +2,7 @@
 use Rattle.std.specs.Prelude.{ℕ, List, Option, Some, None, Result, Ok, Err}
 use Rattle.avm_model.specs.declared.NotTaken.{NotTaken}
 use Rattle.avm_model.specs.Machine.{MachineState}
-use Rattle.avm_model.specs.Offer.{Offer, OfferConsole, OfferClock, OfferData, OfferAck, taken}
+use Rattle.avm_model.specs.Offer.{Offer, OfferData, OfferAck, taken}
 use Rattle.replayer.specs.declared.offering.Offered.{Offered}
 use Rattle.replayer.specs.declared.offering.Offered.TheVariants.{Recv, Acked}
 

@@ -18,10 +18,7 @@ fn try_step(machine: &mut Machine) -> Option<Outs>
     ensures same { IfNone result (machine.new ≡ machine.old) }
     ensures marks { MarksPages (ram_of machine.old) (ram_of machine.new) }
 {
-    if !machine.can_step() {
-        return None;
-    }
-    Some(machine.step())
+    machine.try_step()
 }
 
 /// Steps until there is an output, or the count is reached, or no step can be made.
@@ -37,8 +34,8 @@ fn advance(machine: &mut Machine, pending: &mut Outs, count: u64)
         let Some(outs) = try_step(machine) else {
             return;
         };
-        *pending = outs;
-        if !is_empty(pending) {
+        if !is_empty(&outs) {
+            *pending = outs;
             return;
         }
     }

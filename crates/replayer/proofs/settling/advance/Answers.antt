@@ -1,4 +1,4 @@
-use Rattle.std.proofs.Common.{arith, ◌≡◌, ◌+◌, ◌<◌, ◌∙◌, sym}
+use Rattle.std.proofs.Common.{arith, ◌<◌, ◌∙◌, sym}
 use Rattle.replayer.proofs.Settles.{step_on, step_out, marks_on}
 use Rattle.replayer.proofs.settling.advance.Goals as goal
 
@@ -13,4 +13,4 @@ loop-preserved c =
     let empty = c.if-not-is_empty-2.ensures.none in
     let lt : c.loop.machine.state.count < c.args.count = omega arith in
     let k = step_on c.loop.machine.state c.try_step.new.machine.state c.in-Some.outs c.args.count c.in-Some.ensures.some lt empty in
-    (empty, omega (arith, k.0), k.1 ∙ c.loop.invariant.2, marks_on _ _ _ c.loop.invariant.3 c.try_step.ensures.marks)
+    (c.loop.invariant.0, omega (arith, k.0), k.1 ∙ c.loop.invariant.2, marks_on _ _ _ c.loop.invariant.3 c.try_step.ensures.marks)

@@ -1,4 +1,4 @@
-use Rattle.std.proofs.Common.{◌≡◌, ℕ, ◌-◌}
+use Rattle.std.proofs.Common.{◌≡◌, ◌-◌}
 use Rattle.avm_model.specs.Judge.{quiet}
 use Rattle.avm_model.specs.PageMarks.{MarksPages}
 use Rattle.avm_model.specs.Reference.{timed}
