@@ -1,0 +1,21 @@
+//! The machine as its definitions say it, plain and slow: lists, whole numbers, a copy wherever one is simpler. Its
+//! contract is the definition; what is made to be fast is compared with it.
+#![tactic(auto)]
+
+mod accesses;
+mod board;
+mod devices;
+mod executing;
+mod hart;
+mod memory;
+mod rows;
+mod values;
+mod words;
+
+pub use accesses::{DeviceLoad, device_load, device_store};
+pub use board::{Board, BoardLoad};
+pub use devices::{Devices, Message};
+pub use executing::{Outcome, execute, run};
+pub use hart::Hart;
+pub use values::{imm_value, is_taken, load_value, mul_value, reg_value};
+pub use words::decode;
