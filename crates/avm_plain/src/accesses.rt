@@ -1,9 +1,9 @@
 //! What a word access to the devices does.
 
-ghost use Rattle.std.specs.Prelude.{◌≡◌, ◌<◌, ◌-◌, ◌^◌, All, IfOk, slice_get};
+ghost use Rattle.std.specs.Prelude.{◌≡◌, ◌<◌, ◌-◌, ◌^◌, All, IfOk, IfSome, slice_get};
 ghost use Rattle.avm_model.specs.Memory.{number_at as number_at_lem};
-ghost use Rattle.avm_model.specs.Device.{device_load as device_load_lem, device_store as device_store_lem, load_console as load_console_lem, load_clock as load_clock_lem, oldest, len_of, peer_of, payload_of, sends as sends_lem, try_send as try_send_lem, idle as idle_lem};
-ghost use Rattle.avm_plain.specs.Shown.{loaded_devices};
+ghost use Rattle.avm_model.specs.Device.{Counted, device_load as device_load_lem, device_store as device_store_lem, load_console as load_console_lem, load_clock as load_clock_lem, oldest, len_of, peer_of, payload_of, sends as sends_lem, try_send as try_send_lem, idle as idle_lem};
+ghost use Rattle.avm_plain.specs.Shown.{loaded_devices, PeersStay};
 
 use crate::devices::Devices;
 use crate::memory::{number_at, put_number};
@@ -24,7 +24,8 @@ pub enum DeviceLoad {
 
 /// CON_IN gives the oldest byte, and removes it.
 fn load_console(mut devices: Devices) -> DeviceLoad
-    ensures { loaded_devices result ≡ load_console_lem devices (slice_get devices.console 0) }
+    ensures value { loaded_devices result ≡ load_console_lem devices (slice_get devices.console 0) }
+    ensures peers { PeersStay devices.peers result }
 {
     if devices.console.is_empty() {
         return DeviceLoad::Gave(NONE, devices);
@@ -35,7 +36,8 @@ fn load_console(mut devices: Devices) -> DeviceLoad
 
 /// CLK_LO gives the low half of the pending clock and uses it up; CLK_HI gives the high half from then on.
 fn load_clock(mut devices: Devices) -> DeviceLoad
-    ensures { loaded_devices result ≡ load_clock_lem devices devices.clock }
+    ensures value { loaded_devices result ≡ load_clock_lem devices devices.clock }
+    ensures peers { PeersStay devices.peers result }
 {
     let Some(value) = devices.clock else {
         return DeviceLoad::NoClock;
@@ -76,7 +78,8 @@ fn message_word(devices: &Devices, i: usize) -> u32
 
 /// A word load, by the table of docs/FORMATS.md, "Devices".
 pub fn device_load(devices: Devices, address: u32) -> DeviceLoad
-    ensures { loaded_devices result ≡ device_load_lem devices address }
+    ensures value { loaded_devices result ≡ device_load_lem devices address }
+    ensures peers { PeersStay devices.peers result }
 {
     let value = match address {
         0x1000_0004 => return load_console(devices),
@@ -121,7 +124,8 @@ pub fn sends(devices: &Devices) -> Option<Sent>
 /// The devices after a store to TX_SEND.
 fn try_send(mut devices: Devices) -> Devices
     requires { All (λ p. p.sent < 2 ^ 64 - 1) devices.peers }
-    ensures { result ≡ try_send_lem devices }
+    ensures value { result ≡ try_send_lem devices }
+    ensures counted { Counted devices.peers result.peers }
 {
     let row = row(devices.peers.as_slice(), devices.tx_peer);
     devices.tx_result = send_result(devices.tx_len, row);
@@ -142,7 +146,8 @@ pub fn idle(devices: &Devices) -> bool
 /// The devices after a word store, by the table of docs/FORMATS.md, "Devices"; None exactly where it allows none.
 pub fn device_store(mut devices: Devices, address: u32, value: u32) -> Result<Option<Devices>, AllocError>
     requires { All (λ p. p.sent < 2 ^ 64 - 1) devices.peers }
-    ensures { IfOk result (λ d. d ≡ device_store_lem devices address value) }
+    ensures value { IfOk result (λ d. d ≡ device_store_lem devices address value) }
+    ensures counted { IfOk result (λ d. IfSome d (λ d. Counted devices.peers d.peers)) }
 {
     match address {
         0x1000_0000 => devices.line.push((value % 256) as u8)?,

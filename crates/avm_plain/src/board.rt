@@ -1,9 +1,10 @@
 //! RAM and the devices, as an instruction reads and writes them.
 
-ghost use Rattle.std.specs.Prelude.{◌≡◌, ◌<◌, ◌-◌, ◌*◌, ◌^◌, All, IfOk};
+ghost use Rattle.std.specs.Prelude.{◌≡◌, ◌<◌, ◌-◌, ◌*◌, ◌^◌, All, IfOk, IfSome};
 ghost use Rattle.avm_model.specs.Machine.{board_load as board_load_lem, load_beyond as load_beyond_lem, board_store as board_store_lem, store_beyond as store_beyond_lem, flat};
 ghost use Rattle.avm_model.specs.Values.{bytes_of};
-ghost use Rattle.avm_plain.specs.Board.{loaded_board, IsShort};
+ghost use Rattle.avm_plain.specs.Board.{loaded_board, IsShort, PeersStay};
+ghost use Rattle.avm_model.specs.Device.{Counted};
 
 use crate::accesses::{DeviceLoad, device_load, device_store, idle, sends};
 use crate::devices::Devices;
@@ -42,6 +43,7 @@ pub enum BoardLoad {
 fn load_beyond(board: Board, address: u32, width: Width) -> BoardLoad
     ensures value { loaded_board result ≡ load_beyond_lem board address width }
     ensures bound { IsShort (2 ^ (8 * bytes_of width)) result }
+    ensures peers { PeersStay board.devices.peers result }
 {
     let Width::Word = width else {
         return BoardLoad::NotMapped;
@@ -73,6 +75,7 @@ fn load_beyond(board: Board, address: u32, width: Width) -> BoardLoad
 pub fn board_load(board: Board, address: u32, width: Width) -> BoardLoad
     ensures value { loaded_board result ≡ board_load_lem flat board address width }
     ensures bound { IsShort (2 ^ (8 * bytes_of width)) result }
+    ensures peers { PeersStay board.devices.peers result }
 {
     match ram_load(board.ram.as_slice(), address, width) {
         Some(value) => BoardLoad::Gave(value, board),
@@ -83,7 +86,8 @@ pub fn board_load(board: Board, address: u32, width: Width) -> BoardLoad
 /// What the store sends and whether the guest waits follow from the devices before it.
 fn store_beyond(board: Board, address: u32, width: Width, value: u32) -> Result<Option<Board>, AllocError>
     requires { All (λ p. p.sent < 2 ^ 64 - 1) board.devices.peers }
-    ensures { IfOk result (λ b. b ≡ store_beyond_lem board address width value) }
+    ensures value { IfOk result (λ b. b ≡ store_beyond_lem board address width value) }
+    ensures counted { IfOk result (λ b. IfSome b (λ b. Counted board.devices.peers b.devices.peers)) }
 {
     let Width::Word = width else {
         return Ok(None);
@@ -109,7 +113,8 @@ fn store_beyond(board: Board, address: u32, width: Width, value: u32) -> Result<
 /// A store, to RAM or a device; None exactly where nothing takes it.
 pub fn board_store(mut board: Board, address: u32, width: Width, value: u32) -> Result<Option<Board>, AllocError>
     requires { All (λ p. p.sent < 2 ^ 64 - 1) board.devices.peers }
-    ensures { IfOk result (λ b. b ≡ board_store_lem flat board address width value) }
+    ensures value { IfOk result (λ b. b ≡ board_store_lem flat board address width value) }
+    ensures counted { IfOk result (λ b. IfSome b (λ b. Counted board.devices.peers b.devices.peers)) }
 {
     match place(board.ram.as_slice(), address, width) {
         Some(i) => {

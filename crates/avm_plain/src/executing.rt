@@ -2,9 +2,9 @@
 
 ghost use Rattle.std.specs.Prelude.{◌≡◌, ◌<◌, ◌-◌, ◌*◌, ◌%◌, ◌^◌, All, IfOk};
 ghost use Rattle.avm_model.specs.Values.{bytes_of, load_width as load_width_lem, store_width as store_width_lem};
-ghost use Rattle.avm_model.specs.Exec.{result as result_lem, jump as jump_lem, branch as branch_lem, load as load_lem, store as store_lem, executed, run as run_lem};
-ghost use Rattle.avm_model.specs.Machine.{board as bus, flat};
-ghost use Rattle.avm_plain.specs.Outcome.{outcome_of};
+ghost use Rattle.avm_model.specs.Exec.{result as result_lem, jump as jump_lem, branch as branch_lem, load as load_lem, store as store_lem, executed};
+ghost use Rattle.avm_model.specs.Machine.{board as bus, flat, exec_flat};
+ghost use Rattle.avm_plain.specs.Outcome.{outcome_of, CountsOne};
 
 use crate::board::{Board, BoardLoad, board_load, board_store};
 use crate::hart::{Hart, gives, next, next_pc, offset, put_and_go, reg};
@@ -57,13 +57,15 @@ fn low_bytes(width: Width, value: u32) -> u32
 }
 
 fn finish(hart: Hart, board: Board, rd: u8, value: u32) -> Outcome
-    ensures { outcome_of result ≡ result_lem hart board rd value }
+    ensures value { outcome_of result ≡ result_lem hart board rd value }
+    ensures counted { CountsOne board.devices.peers result }
 {
     Outcome::Goes(gives(hart, rd, value), board)
 }
 
 fn jump(hart: Hart, board: Board, rd: u8, target: u32) -> Outcome
-    ensures { outcome_of result ≡ jump_lem hart board rd target }
+    ensures value { outcome_of result ≡ jump_lem hart board rd target }
+    ensures counted { CountsOne board.devices.peers result }
 {
     if target % 4 != 0 {
         return Outcome::Stops {
@@ -76,7 +78,8 @@ fn jump(hart: Hart, board: Board, rd: u8, target: u32) -> Outcome
 }
 
 fn branch(mut hart: Hart, board: Board, taken: bool, target: u32) -> Outcome
-    ensures { outcome_of result ≡ branch_lem hart board taken target }
+    ensures value { outcome_of result ≡ branch_lem hart board taken target }
+    ensures counted { CountsOne board.devices.peers result }
 {
     if !taken {
         return Outcome::Goes(next(hart), board);
@@ -92,7 +95,8 @@ fn branch(mut hart: Hart, board: Board, taken: bool, target: u32) -> Outcome
 }
 
 fn load(hart: Hart, board: Board, op: LoadOp, rd: u8, address: u32) -> Outcome
-    ensures { outcome_of result ≡ load_lem (bus flat) hart board op rd address }
+    ensures value { outcome_of result ≡ load_lem (bus flat) hart board op rd address }
+    ensures counted { CountsOne board.devices.peers result }
 {
     let width = load_width(op);
     if address % width.bytes() != 0 {
@@ -115,7 +119,8 @@ fn load(hart: Hart, board: Board, op: LoadOp, rd: u8, address: u32) -> Outcome
 
 fn store(hart: Hart, board: Board, op: StoreOp, address: u32, value: u32) -> Result<Outcome, AllocError>
     requires { All (λ p. p.sent < 2 ^ 64 - 1) board.devices.peers }
-    ensures { IfOk result (λ o. outcome_of o ≡ store_lem (bus flat) hart board op address value) }
+    ensures value { IfOk result (λ o. outcome_of o ≡ store_lem (bus flat) hart board op address value) }
+    ensures counted { IfOk result (λ o. CountsOne board.devices.peers o) }
 {
     let width = store_width(op);
     if address % width.bytes() != 0 {
@@ -136,7 +141,8 @@ fn store(hart: Hart, board: Board, op: StoreOp, address: u32, value: u32) -> Res
 /// An instruction (RISC-V Unprivileged ISA, "RV32I Base Integer Instruction Set" and "M Extension").
 pub fn execute(hart: Hart, board: Board, inst: Inst) -> Result<Outcome, AllocError>
     requires { All (λ p. p.sent < 2 ^ 64 - 1) board.devices.peers }
-    ensures { IfOk result (λ o. outcome_of o ≡ executed (bus flat) hart board inst) }
+    ensures value { IfOk result (λ o. outcome_of o ≡ executed (bus flat) hart board inst) }
+    ensures counted { IfOk result (λ o. CountsOne board.devices.peers o) }
 {
     match inst {
         Inst::Lui { rd, imm } => Ok(finish(hart, board, rd, imm)),
@@ -191,9 +197,11 @@ pub fn execute(hart: Hart, board: Board, inst: Inst) -> Result<Outcome, AllocErr
 }
 
 /// The instruction at pc.
+#[tactic(auto, unfolding(avm_model::specs::Machine::exec_flat))]
 pub fn run(hart: Hart, board: Board) -> Result<Outcome, AllocError>
     requires { All (λ p. p.sent < 2 ^ 64 - 1) board.devices.peers }
-    ensures { IfOk result (λ o. outcome_of o ≡ run_lem (bus flat) hart board) }
+    ensures value { IfOk result (λ o. outcome_of o ≡ exec_flat hart board) }
+    ensures counted { IfOk result (λ o. CountsOne board.devices.peers o) }
 {
     let Some(word) = ram_load(board.ram.as_slice(), hart.pc, Width::Word) else {
         return Ok(Outcome::Stops {

@@ -9,6 +9,9 @@ mod executing;
 mod hart;
 mod memory;
 mod rows;
+mod state;
+mod stepping;
+mod taking;
 mod values;
 mod words;
 
@@ -17,5 +20,8 @@ pub use board::{Board, BoardLoad};
 pub use devices::{Devices, Message};
 pub use executing::{Outcome, execute, run};
 pub use hart::Hart;
+pub use state::{Output, State, Stepped, asks, can_step};
+pub use stepping::step;
+pub use taking::{Input, refusal, take};
 pub use values::{imm_value, is_taken, load_value, mul_value, reg_value};
 pub use words::decode;

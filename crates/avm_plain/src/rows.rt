@@ -1,7 +1,8 @@
 //! The rows of the peers.
 
 ghost use Rattle.std.specs.Prelude.{◌≡◌, ◌<◌, ◌-◌, ◌^◌, length, All, IfSome};
-ghost use Rattle.avm_model.specs.Device.{row_of, with_row, sends_one as sends_one_lem, send_result as send_result_lem, next_number as next_number_lem, find_peer as find_peer_lem};
+ghost use Rattle.avm_plain.specs.Peers.{SentKept};
+ghost use Rattle.avm_model.specs.Device.{Counted, row_of, with_row, sends_one as sends_one_lem, send_result as send_result_lem, next_number as next_number_lem, find_peer as find_peer_lem};
 ghost use Rattle.avm_model.specs.Input.{receives_one as receives_one_lem, acknowledges as acknowledges_lem};
 
 use avm_model::Peer;
@@ -52,7 +53,8 @@ pub fn next_number(row: Option<Peer>) -> u64
 /// Counts a message to this id.
 pub fn sends_one(peers: &mut [Peer], id: u32)
     requires { All (λ p. p.sent < 2 ^ 64 - 1) peers.old }
-    ensures { peers.new ≡ with_row peers.old id sends_one_lem }
+    ensures value { peers.new ≡ with_row peers.old id sends_one_lem }
+    ensures counted { Counted peers.old peers.new }
 {
     if let Some(i) = find_peer(peers, id) {
         peers[i].sent += 1;
@@ -62,7 +64,8 @@ pub fn sends_one(peers: &mut [Peer], id: u32)
 /// Counts a message from this id.
 pub fn receives_one(peers: &mut [Peer], id: u32)
     requires { IfSome (row_of peers.old id) (λ p. p.received < 2 ^ 64 - 1) }
-    ensures { peers.new ≡ with_row peers.old id receives_one_lem }
+    ensures value { peers.new ≡ with_row peers.old id receives_one_lem }
+    ensures sent { SentKept peers.old peers.new }
 {
     if let Some(i) = find_peer(peers, id) {
         peers[i].received += 1;
@@ -71,7 +74,8 @@ pub fn receives_one(peers: &mut [Peer], id: u32)
 
 /// Counts the last message to this id as acknowledged.
 pub fn acknowledges(peers: &mut [Peer], id: u32)
-    ensures { peers.new ≡ with_row peers.old id acknowledges_lem }
+    ensures value { peers.new ≡ with_row peers.old id acknowledges_lem }
+    ensures sent { SentKept peers.old peers.new }
 {
     if let Some(i) = find_peer(peers, id) {
         peers[i].acked = peers[i].sent;

@@ -1,0 +1,7 @@
+use Rattle.std.proofs.Common.{◌≡◌, ◌+◌, IfSome, ap, subst, sym, rules}
+use Rattle.avm_model.specs.Device.{DeviceState, row_of}
+use Rattle.avm_plain.proofs.Numbers.{next_of}
+use Rattle.avm_plain.proofs.taking.take.Goals as goal
+
+pub add_message-requires : goal.add_message-requires
+add_message-requires c = search (rules, next_of)
