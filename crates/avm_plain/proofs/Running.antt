@@ -1,5 +1,5 @@
 -- The rules of a run, as the plain program goes by them.
-use Rattle.std.proofs.Common.{◌≡◌, ℕ, suc, ◌+◌, ◌-◌, ◌<◌, ◌≤◌, true, false, List, [], ◌∷◌, ◌++◌, map, length, drop, Bool, IsTrue, ◌↔◌, append_assoc, Some, None, ◌⊎◌, inl, inr, refl, sym, ap, subst, ◌∙◌, arith}
+use Rattle.std.proofs.Common.{◌≡◌, ℕ, ◌+◌, ◌<◌, ◌≤◌, true, false, List, [], ◌∷◌, ◌++◌, map, drop, Bool, IsTrue, ◌↔◌, append_assoc, Some, None, ◌⊎◌, inl, inr, refl, sym, ap, subst, ◌∙◌, arith}
 use Rattle.std.proofs.lemmas.List.{map-append, drop-map}
 use Rattle.avm_model.specs.Machine.{State, Step, can_step}
 use Rattle.avm_model.specs.Timed.{Entry as EntryOf, given, made, takes, inputs, last_count}

@@ -1,5 +1,5 @@
 -- What the plain program's answers say in the words of the definitions.
-use Rattle.std.specs.Prelude.{◌≡◌, ℕ, List}
+use Rattle.std.specs.Prelude.{◌≡◌, List}
 use Rattle.avm_model.specs.Device.{DeviceState}
 use Rattle.avm_model.specs.Exec.{Loaded, Gave as GaveOf, NotMapped as NothingOf, NoClock as NoClockOf}
 use Rattle.avm_model.specs.declared.Peer.{Peer}

@@ -1,5 +1,5 @@
 -- What a step of the plain program says in the words of the definitions.
-use Rattle.std.specs.Prelude.{List, map}
+use Rattle.std.specs.Prelude.{map}
 use Rattle.avm_model.specs.Machine.{Output as OutputOf, Out as OutOf, Send as SendOf, Halt as HaltOf, Snap as SnapOf, Stepped as SteppedOf}
 use Rattle.avm_plain.specs.declared.state.Output.{Output}
 use Rattle.avm_plain.specs.declared.state.Output.TheVariants.{Out, Send, Halt, Snap}

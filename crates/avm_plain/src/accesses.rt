@@ -144,7 +144,11 @@ pub fn idle(devices: &Devices) -> bool
 }
 
 /// The devices after a word store, by the table of docs/FORMATS.md, "Devices"; None exactly where it allows none.
-pub fn device_store(mut devices: Devices, address: u32, value: u32) -> Result<Option<Devices>, AllocError>
+pub fn device_store(
+    mut devices: Devices,
+    address: u32,
+    value: u32,
+) -> Result<Option<Devices>, AllocError>
     requires { All (λ p. p.sent < 2 ^ 64 - 1) devices.peers }
     ensures value { IfOk result (λ d. d ≡ device_store_lem devices address value) }
     ensures counted { IfOk result (λ d. IfSome d (λ d. Counted devices.peers d.peers)) }

@@ -84,7 +84,12 @@ pub fn board_load(board: Board, address: u32, width: Width) -> BoardLoad
 }
 
 /// What the store sends and whether the guest waits follow from the devices before it.
-fn store_beyond(board: Board, address: u32, width: Width, value: u32) -> Result<Option<Board>, AllocError>
+fn store_beyond(
+    board: Board,
+    address: u32,
+    width: Width,
+    value: u32,
+) -> Result<Option<Board>, AllocError>
     requires { All (λ p. p.sent < 2 ^ 64 - 1) board.devices.peers }
     ensures value { IfOk result (λ b. b ≡ store_beyond_lem board address width value) }
     ensures counted { IfOk result (λ b. IfSome b (λ b. Counted board.devices.peers b.devices.peers)) }
@@ -111,7 +116,12 @@ fn store_beyond(board: Board, address: u32, width: Width, value: u32) -> Result<
 }
 
 /// A store, to RAM or a device; None exactly where nothing takes it.
-pub fn board_store(mut board: Board, address: u32, width: Width, value: u32) -> Result<Option<Board>, AllocError>
+pub fn board_store(
+    mut board: Board,
+    address: u32,
+    width: Width,
+    value: u32,
+) -> Result<Option<Board>, AllocError>
     requires { All (λ p. p.sent < 2 ^ 64 - 1) board.devices.peers }
     ensures value { IfOk result (λ b. b ≡ board_store_lem flat board address width value) }
     ensures counted { IfOk result (λ b. IfSome b (λ b. Counted board.devices.peers b.devices.peers)) }

@@ -1,6 +1,7 @@
 //! The devices: what they hold.
 
-ghost use Rattle.std.specs.Prelude.{◌≡◌, IfOk};
+ghost use Rattle.std.specs.Prelude.{◌≡◌, replicate, IfOk};
+ghost use Rattle.avm_model.specs.Device.{fresh};
 
 use avm_model::Peer;
 use std::alloc::{AllocError, Global};
@@ -72,6 +73,12 @@ impl Message {
     }
 }
 
+fn zeros(alloc: Global, n: usize) -> Result<Vec<u8>, AllocError>
+    ensures { IfOk result (λ v. v.items ≡ replicate n 0) }
+{
+    vec![in alloc; 0u8; n]
+}
+
 fn copy_messages(alloc: Global, messages: &[Message]) -> Result<Vec<Message>, AllocError>
     ensures { IfOk result (λ v. v.items ≡ messages.now) }
 {
@@ -83,6 +90,25 @@ fn copy_messages(alloc: Global, messages: &[Message]) -> Result<Vec<Message>, Al
 }
 
 impl Devices {
+    /// Devices that hold nothing.
+    pub fn fresh(alloc: Global, own: u8, peers: Vec<Peer>) -> Result<Devices, AllocError>
+        ensures { IfOk result (λ d. d ≡ fresh own peers.items) }
+    {
+        Ok(Devices {
+            own,
+            peers,
+            line: Vec::new(alloc),
+            console: Vec::new(alloc),
+            messages: Vec::new(alloc),
+            latch: 0,
+            clock: None,
+            tx_peer: 0,
+            tx_len: 0,
+            tx_result: 0,
+            window: zeros(alloc, 1024)?,
+        })
+    }
+
     /// The same devices.
     pub fn copy(&self, alloc: Global) -> Result<Devices, AllocError>
         ensures { IfOk result (λ d. d ≡ self.now) }

@@ -58,10 +58,8 @@ fn same_input(a: &Input, b: &Input) -> bool
                 message: b,
             },
         ) => *m == *n && a.peer == b.peer && a.payload.as_slice() == b.payload.as_slice(),
-        (
-            Input::Acked { peer: a, number: m },
-            Input::Acked { peer: b, number: n },
-        ) => *a == *b && *m == *n,
+        (Input::Acked { peer: a, number: m }, Input::Acked { peer: b, number: n }) => *a == *b
+            && *m == *n,
         _ => false,
     }
 }
@@ -83,10 +81,8 @@ fn same_output(a: &Output, b: &Output) -> bool
                 payload: b,
             },
         ) => *p == *q && *m == *n && a.as_slice() == b.as_slice(),
-        (
-            Output::Halt { cause: c, value: v },
-            Output::Halt { cause: d, value: w },
-        ) => *c == *d && *v == *w,
+        (Output::Halt { cause: c, value: v }, Output::Halt { cause: d, value: w }) => *c == *d
+            && *v == *w,
         (Output::Snap, Output::Snap) => true,
         _ => false,
     }

@@ -19,10 +19,7 @@ use std::alloc::AllocError;
 pub enum Outcome {
     Goes(Hart, Board),
     Waits,
-    Stops {
-        cause: u32,
-        value: u32,
-    },
+    Stops { cause: u32, value: u32 },
 }
 
 fn load_width(op: LoadOp) -> Width
@@ -117,7 +114,13 @@ fn load(hart: Hart, board: Board, op: LoadOp, rd: u8, address: u32) -> Outcome
     }
 }
 
-fn store(hart: Hart, board: Board, op: StoreOp, address: u32, value: u32) -> Result<Outcome, AllocError>
+fn store(
+    hart: Hart,
+    board: Board,
+    op: StoreOp,
+    address: u32,
+    value: u32,
+) -> Result<Outcome, AllocError>
     requires { All (λ p. p.sent < 2 ^ 64 - 1) board.devices.peers }
     ensures value { IfOk result (λ o. outcome_of o ≡ store_lem (bus flat) hart board op address value) }
     ensures counted { IfOk result (λ o. CountsOne board.devices.peers o) }

@@ -29,3 +29,6 @@ pub use stepping::step;
 pub use taking::{Input, refusal, take};
 pub use values::{imm_value, is_taken, load_value, mul_value, reg_value};
 pub use words::decode;
+
+#[cfg(test)]
+mod tests;

@@ -44,17 +44,23 @@ fn stamped(alloc: Global, count: u64, outs: Vec<Output>) -> Result<Vec<Entry>, A
 }
 
 /// Rules 2 and 3: below `end` a step is made where the state can make one, and its outputs come next; else the run ends.
-fn advance_step(alloc: Global, state: &State, inputs: &[Given], end: u64) -> Result<Option<Part>, AllocError>
+fn advance_step(
+    alloc: Global,
+    state: &State,
+    inputs: &[Given],
+    end: u64,
+) -> Result<Option<Part>, AllocError>
     requires { NotTaken plain state.now (map given_of inputs.now) }
     ensures { IfOk result (λ p. Advancing state.now (map given_of inputs.now) end p) }
 {
     if state.count >= end || !can_step(state) {
         return Ok(None);
     }
-    let Stepped { state, outs } = step(alloc, state)?;
+    let Stepped { state: next, outs } = step(alloc, state)?;
+    let entries = stamped(alloc, next.count, outs)?;
     Ok(Some(Part {
-        entries: stamped(alloc, state.count, outs)?,
-        state,
+        entries,
+        state: next,
         took: 0,
     }))
 }
@@ -68,7 +74,12 @@ fn one_entry(alloc: Global, entry: Entry) -> Result<Vec<Entry>, AllocError>
 }
 
 /// Rule 1: the next input is taken where it can be; else the other rules apply.
-fn advance(alloc: Global, state: &State, inputs: &[Given], end: u64) -> Result<Option<Part>, AllocError>
+fn advance(
+    alloc: Global,
+    state: &State,
+    inputs: &[Given],
+    end: u64,
+) -> Result<Option<Part>, AllocError>
     ensures { IfOk result (λ p. Advancing state.now (map given_of inputs.now) end p) }
 {
     let Some((first, _)) = inputs.split_first() else {
@@ -94,7 +105,12 @@ fn behind(inputs: &[Given], n: usize) -> &[Given]
 }
 
 /// The entries of the run from the state over the inputs, while the count is below `end`.
-pub fn rerun(alloc: Global, state: &State, inputs: &[Given], end: u64) -> Result<Vec<Entry>, AllocError>
+pub fn rerun(
+    alloc: Global,
+    state: &State,
+    inputs: &[Given],
+    end: u64,
+) -> Result<Vec<Entry>, AllocError>
     ensures { IfOk result (λ v. map entry_of v.items ≡ entries_in (rerun_lem plain state.now (map given_of inputs.now) end)) }
 {
     let mut state = state.copy(alloc)?;
@@ -141,7 +157,7 @@ fn last_count(entries: &[Entry]) -> u64
 }
 
 /// Whether the entries are the first of a run's.
-fn is_front(entries: &[Entry], run: &[Entry]) -> bool
+pub fn is_front(entries: &[Entry], run: &[Entry]) -> bool
     ensures { IsTrue result ↔ Opens (map entry_of entries.now) (map entry_of run.now) }
 {
     for (i, entry) in entries.iter().enumerate() {

@@ -1,7 +1,7 @@
 //! The state of the machine, and what its steps put out.
 
-ghost use Rattle.std.specs.Prelude.{◌≡◌, IfOk};
-ghost use Rattle.avm_model.specs.Machine.{is_running as is_running_lem, loads_clock as loads_clock_lem, next_inst as next_inst_lem, asks as asks_lem, can_step as can_step_lem};
+ghost use Rattle.std.specs.Prelude.{◌≡◌, ◌≤◌, ◌<◌, All, IfOk};
+ghost use Rattle.avm_model.specs.Machine.{initial, is_running as is_running_lem, loads_clock as loads_clock_lem, next_inst as next_inst_lem, asks as asks_lem, can_step as can_step_lem};
 
 use crate::devices::Devices;
 use crate::hart::{Hart, copy_hart, offset, reg};
@@ -69,6 +69,22 @@ pub struct Stepped {
 }
 
 impl State {
+    /// The state that runs from `pc`, with registers 0. No message was sent yet.
+    pub fn initial(devices: Devices, ram: Vec<u8>, snap: u32, pc: u32) -> State
+        requires snap { 0 < snap }
+        requires sent { All (λ p. p.sent ≤ 0) devices.peers }
+        ensures { result ≡ initial devices ram.items snap pc }
+    {
+        State {
+            hart: Hart { x: [0; 32], pc },
+            ram,
+            devices,
+            snap,
+            count: 0,
+            status: Status::Running,
+        }
+    }
+
     /// The same state.
     pub fn copy(&self, alloc: Global) -> Result<State, AllocError>
         ensures { IfOk result (λ s. s ≡ self.now) }

@@ -41,7 +41,12 @@ fn with_output(mut outs: Vec<Output>, output: Output) -> Result<Vec<Output>, All
 }
 
 /// The outputs, and the line where it goes out.
-fn out_line(alloc: Global, outs: Vec<Output>, emits: bool, line: &[u8]) -> Result<Vec<Output>, AllocError>
+fn out_line(
+    alloc: Global,
+    outs: Vec<Output>,
+    emits: bool,
+    line: &[u8],
+) -> Result<Vec<Output>, AllocError>
     ensures { IfOk result (λ v. map output_of v.items ≡ map output_of outs.items ++ out_line_lem emits line.now) }
 {
     if !emits {
@@ -51,7 +56,12 @@ fn out_line(alloc: Global, outs: Vec<Output>, emits: bool, line: &[u8]) -> Resul
 }
 
 /// The outputs, and what was sent.
-fn out_send(alloc: Global, outs: Vec<Output>, sent: Option<Sent>, window: &[u8]) -> Result<Vec<Output>, AllocError>
+fn out_send(
+    alloc: Global,
+    outs: Vec<Output>,
+    sent: Option<Sent>,
+    window: &[u8],
+) -> Result<Vec<Output>, AllocError>
     ensures { IfOk result (λ v. map output_of v.items ≡ map output_of outs.items ++ out_send_lem sent window.now) }
 {
     let Some(Sent { peer, number, len }) = sent else {
@@ -135,14 +145,9 @@ fn halted(alloc: Global, state: &State, cause: u32, value: u32) -> Result<Steppe
 {
     let count = state.count + 1;
     let emits = !state.devices.line.is_empty();
-    let outs = out_line(
-        alloc,
-        Vec::new(alloc),
-        emits,
-        state.devices.line.as_slice(),
-    )?;
-    let outs = with_output(outs, Output::Halt { cause, value })?;
-    let outs = out_snap(outs, state.snap, count)?;
+    let outs = out_line(alloc, Vec::new(alloc), emits, state.devices.line.as_slice())?;
+    let halting = with_output(outs, Output::Halt { cause, value })?;
+    let outs = out_snap(halting, state.snap, count)?;
     let state = State {
         hart: copy_hart(&state.hart),
         ram: Vec::from_slice(alloc, state.ram.as_slice())?,

@@ -21,15 +21,9 @@ pub enum Input {
     /// The clock that the machine asked for.
     Clock(u64),
     /// A message, with its number.
-    Message {
-        number: u64,
-        message: Message,
-    },
+    Message { number: u64, message: Message },
     /// A peer's acknowledgement of the message of this number.
-    Acked {
-        peer: u32,
-        number: u64,
-    },
+    Acked { peer: u32, number: u64 },
 }
 
 impl Input {
@@ -149,7 +143,12 @@ pub fn refusal(state: &State, input: &Input) -> Option<NotTaken>
 }
 
 /// The state with other devices and another status.
-fn with_devices(alloc: Global, state: &State, devices: Devices, status: Status) -> Result<State, AllocError>
+fn with_devices(
+    alloc: Global,
+    state: &State,
+    devices: Devices,
+    status: Status,
+) -> Result<State, AllocError>
     requires { SentKept state.now.devices.peers devices.peers }
     ensures { IfOk result (λ s. s ≡ record state.now { devices = devices; status = status }) }
 {

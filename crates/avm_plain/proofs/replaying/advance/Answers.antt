@@ -15,6 +15,6 @@ returns c =
     let took : takes plain c.args.state.now i ≡ Some c.in-Some-2.next = sym c.in_ok-next.ensures ∙ c.in-Some-2.is in
     let same : given_of c.in_ok-copy.field-0 ≡ i = c.in_ok-copy.ensures in
     let entries : map entry_of c.in_ok-one_entry.field-0.items ≡ given i ∷ [] =
-        ap (map entry_of) c.in_ok-one_entry.ensures ∙ ap (λ (g : GivenOf). given g ∷ []) same in
+    ap (map entry_of) c.in_ok-one_entry.ensures ∙ ap (λ (g : GivenOf). given g ∷ []) same in
     subst (λ (gs : List Given). Advances c.args.state.now (map given_of gs) c.args.end p) (sym all)
     (advances_by_input c.args.state.now i (map given_of c.in-Some.field-0-1.now) c.args.end p took entries refl)

@@ -1,4 +1,4 @@
-use Rattle.std.proofs.Common.{◌≡◌, map, ap, sym, ◌∙◌, rules}
+use Rattle.std.proofs.Common.{map, ap, ◌∙◌}
 use Rattle.avm_plain.specs.Replay.{given_of, entry_of}
 use Rattle.avm_plain.proofs.Running.{told}
 use Rattle.avm_plain.proofs.replaying.replays.Goals as goal

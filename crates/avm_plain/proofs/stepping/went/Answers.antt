@@ -1,7 +1,5 @@
-use Rattle.std.proofs.Common.{◌≡◌, ◌≤◌, ◌+◌, ◌∙◌, All, List, ap, subst, sym}
-use Rattle.avm_model.specs.Device.{DeviceState}
+use Rattle.std.proofs.Common.{◌≡◌, ◌≤◌, ◌∙◌, All, ap, subst, sym}
 use Rattle.avm_model.specs.Machine.{Board, State}
-use Rattle.avm_model.specs.declared.Peer.{Peer}
 use Rattle.avm_plain.proofs.stepping.went.Goals as goal
 
 pub invariant_of-state : goal.invariant_of-state

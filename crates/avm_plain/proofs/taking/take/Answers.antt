@@ -1,5 +1,4 @@
-use Rattle.std.proofs.Common.{◌≡◌, ◌+◌, IfSome, ap, subst, sym, rules}
-use Rattle.avm_model.specs.Device.{DeviceState, row_of}
+use Rattle.std.proofs.Common.{rules}
 use Rattle.avm_plain.proofs.Numbers.{next_of}
 use Rattle.avm_plain.proofs.taking.take.Goals as goal
 
