@@ -1,0 +1,11 @@
+//! Runs of the top call: what it prints, its status, and the file that it writes.
+
+mod building;
+mod echo;
+mod entries;
+mod guests;
+mod keys;
+mod rows;
+mod running;
+mod signed;
+mod verdicts;

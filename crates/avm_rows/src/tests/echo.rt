@@ -1,0 +1,172 @@
+//! Messages of a peer, under a key of its own, to a guest that sends each of them back.
+
+ghost use Rattle.std.specs.Prelude.{IsTrue, IfOk, ◌-◌, ◌^◌};
+ghost use Rattle.avm_model.specs.Bounds.{are_rows, none_past};
+
+use super::building::{Entry, booted, content, origin_of};
+use super::entries::{CLOCK, SEND};
+use super::guests::ECHO;
+use super::keys::{key, signature};
+use super::running::audits_as;
+use avm_hash::Digest;
+use avm_num::Room;
+use guest_dev::Peer;
+use lms_tree::LmsKey;
+use log_chain::next;
+use peer_packet::{put_ack, put_data};
+use std::alloc::{AllocError, Global};
+
+const RECV: u8 = 5;
+
+const ACKED: u8 = 6;
+
+/// The public key of the peer, by an independent program.
+const PUBLIC: [u8; 56] = [
+    0x00, 0x00, 0x00, 0x05, 0x00, 0x00, 0x00, 0x04, 0x00, 0x01, 0x02, 0x03, 0x04, 0x05, 0x06, 0x07,
+    0x08, 0x09, 0x0a, 0x0b, 0x0c, 0x0d, 0x0e, 0x0f, 0xd6, 0x93, 0x45, 0xe2, 0x1f, 0xcf, 0x68, 0x80,
+    0x42, 0xf3, 0xb3, 0x21, 0x86, 0xad, 0xe9, 0x6f, 0x33, 0x50, 0xf1, 0xae, 0x9b, 0x48, 0xca, 0x26,
+    0xdc, 0xbb, 0xb9, 0x6f, 0xb8, 0x27, 0x2f, 0xd8,
+];
+
+/// The clock that the guest asks for, and the message that it sends back: 1 to peer 1, `ping`.
+const ASKED: Entry<'static> = (CLOCK, 21, &[0; 8]);
+
+const SENT: Entry<'static> = (SEND, 24600, PING);
+
+const PING: &[u8] = &[0, 0, 0, 1, 0, 0, 0, 0, 0, 0, 0, 1, 112, 105, 110, 103];
+
+/// The row of peer 1.
+fn one_row(alloc: Global) -> Result<Vec<Peer>, AllocError>
+    ensures rows { IfOk result (λ v. IsTrue (are_rows 0 0 v.items)) }
+    ensures none { IfOk result (λ v. IsTrue (none_past 0 v.items)) }
+    ensures sent { IfOk result (λ v. IsTrue (none_past (2 ^ 62 - 1) v.items)) }
+{
+    let row = Peer {
+        id: 1,
+        key: PUBLIC,
+        sent: 0,
+        acked: 0,
+        received: 0,
+    };
+    Ok(vec![in alloc; row]?)
+}
+
+/// The segment of the guest whose entries behind BOOT are these.
+fn segment(alloc: Global, entries: &[Entry<'_>]) -> Option<Vec<u8>> {
+    let Ok(rows) = one_row(alloc) else {
+        return None;
+    };
+    let origin = origin_of(alloc, ECHO, 1 << 20, rows)?;
+    booted(alloc, &origin, entries)
+}
+
+/// The DATA packet of a sender, whose entry 1 sends `ping` with a number to a receiver.
+#[tactic(auto, unfolding(avm_num::specs::Room::left))]
+fn data(alloc: Global, key: &LmsKey, from: u32, to: u32, number: u64) -> Option<Vec<u8>> {
+    let mut message = Vec::from_slice(alloc, &to.to_be_bytes()).ok()?;
+    message.extend_from_slice(&number.to_be_bytes()).ok()?;
+    message.extend_from_slice(b"ping").ok()?;
+    let sent = content(alloc, 9, &message)?;
+    let before = Digest([0; 32]);
+    let sig = signature(alloc, key, 3, 1, &next(&before, 1, SEND, &sent))?;
+    if sent.len() > 24576 || sig.len() > 9324 {
+        return None;
+    }
+    let mut out = Room::new(alloc, 53 + sent.len() + sig.len()).ok()?;
+    put_data(&mut out, from, 1, &before, &sent, &sig);
+    Vec::from_slice(alloc, out.bytes()).ok()
+}
+
+/// The guest's own DATA packet for what it sends, as the peer has it, without a signature.
+#[tactic(auto, unfolding(avm_num::specs::Room::left))]
+fn echoed(alloc: Global) -> Option<Vec<u8>> {
+    let sent = content(alloc, 24600, PING)?;
+    if sent.len() > 24576 {
+        return None;
+    }
+    let mut out = Room::new(alloc, 53 + sent.len()).ok()?;
+    put_data(&mut out, 0, 4, &Digest([9; 32]), &sent, &[]);
+    Vec::from_slice(alloc, out.bytes()).ok()
+}
+
+/// The ACK packet of the peer for that message, whose entry 2 received it.
+#[tactic(auto, unfolding(avm_num::specs::Room::left))]
+fn ack(alloc: Global, key: &LmsKey) -> Option<Vec<u8>> {
+    let received = content(alloc, 3, &echoed(alloc)?)?;
+    let before = Digest([0; 32]);
+    let sig = signature(alloc, key, 4, 2, &next(&before, 2, RECV, &received))?;
+    if received.len() > 24576 || sig.len() > 9324 {
+        return None;
+    }
+    let mut out = Room::new(alloc, 53 + received.len() + sig.len()).ok()?;
+    put_ack(&mut out, 1, 2, &before, &received, &sig);
+    Vec::from_slice(alloc, out.bytes()).ok()
+}
+
+fn judged(alloc: Global, entries: &[Entry<'_>], line: &str, status: u8) -> bool {
+    match segment(alloc, entries) {
+        Some(segment) => audits_as(alloc, &segment, line, status),
+        None => false,
+    }
+}
+
+#[test]
+fn a_message_comes_back(rt: HostRuntime) {
+    let key = key(rt.alloc(), 0x22).expect(&rt, "memory");
+    assert_eq!(rt; key.public(), PUBLIC);
+    let ping = data(rt.alloc(), &key, 1, 0, 1).expect(&rt, "memory");
+    let ack = ack(rt.alloc(), &key).expect(&rt, "memory");
+    let came: Entry<'_> = (RECV, 0, &ping);
+    let acked: Entry<'_> = (ACKED, 24600, &ack);
+    let rows: [(&[Entry<'_>], &str, u8); 6] = [
+        (&[came, ASKED, SENT], "accepted 1 to 4 covered 0\n", 0),
+        (&[came, came, ASKED, SENT], "refused uncovered 3\n", 2),
+        (&[ASKED, SENT], "refused uncovered 2\n", 2),
+        (
+            &[came, ASKED, SENT, acked],
+            "accepted 1 to 5 covered 0\n",
+            0,
+        ),
+        (
+            &[came, ASKED, SENT, acked, acked],
+            "refused uncovered 6\n",
+            2,
+        ),
+        (&[(ACKED, 0, &ack), came], "refused uncovered 2\n", 2),
+    ];
+    for (entries, line, status) in rows {
+        assert!(rt; judged(rt.alloc(), entries, line, status), "{line}");
+    }
+}
+
+#[test]
+fn messages_that_are_not_taken(rt: HostRuntime) {
+    let key = key(rt.alloc(), 0x22).expect(&rt, "memory");
+    // the sender, the receiver, and the message's number
+    let rows: [(u32, u32, u64); 4] = [(1, 0, 2), (1, 0, 3), (1, 2, 1), (7, 0, 1)];
+    for (from, to, number) in rows {
+        let packet = data(rt.alloc(), &key, from, to, number).expect(&rt, "memory");
+        let entries: [Entry<'_>; 3] = [(RECV, 0, &packet), ASKED, SENT];
+        assert!(rt;
+            judged(rt.alloc(), &entries, "refused uncovered 2\n", 2),
+            "{number} from {from} to {to}"
+        );
+    }
+}
+
+/// The signature stands at 77: its leaf and its type, C at 85, the chains at 117, the tree's type at 1205 and the path at 1209.
+#[test]
+fn a_changed_signature_is_not_taken(rt: HostRuntime) {
+    let key = key(rt.alloc(), 0x22).expect(&rt, "memory");
+    for at in [77, 80, 81, 84, 85, 117, 1204, 1205, 1208, 1209, 1368] {
+        let mut packet = data(rt.alloc(), &key, 1, 0, 1).expect(&rt, "memory");
+        if let Some(byte) = packet.get_mut(at) {
+            *byte ^= 1;
+        }
+        let entries: [Entry<'_>; 3] = [(RECV, 0, &packet), ASKED, SENT];
+        assert!(rt;
+            judged(rt.alloc(), &entries, "refused uncovered 2\n", 2),
+            "byte {at}"
+        );
+    }
+}
