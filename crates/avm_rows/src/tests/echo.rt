@@ -6,7 +6,7 @@ ghost use Rattle.avm_model.specs.Bounds.{are_rows, none_past};
 use super::building::{Entry, booted, content, origin_of};
 use super::entries::{CLOCK, SEND};
 use super::guests::ECHO;
-use super::keys::{key, signature};
+use super::keys::{quick_key, signature};
 use super::running::audits_as;
 use avm_hash::Digest;
 use avm_num::Room;
@@ -22,10 +22,10 @@ const ACKED: u8 = 6;
 
 /// The public key of the peer, by an independent program.
 const PUBLIC: [u8; 56] = [
-    0x00, 0x00, 0x00, 0x05, 0x00, 0x00, 0x00, 0x04, 0x00, 0x01, 0x02, 0x03, 0x04, 0x05, 0x06, 0x07,
-    0x08, 0x09, 0x0a, 0x0b, 0x0c, 0x0d, 0x0e, 0x0f, 0xd6, 0x93, 0x45, 0xe2, 0x1f, 0xcf, 0x68, 0x80,
-    0x42, 0xf3, 0xb3, 0x21, 0x86, 0xad, 0xe9, 0x6f, 0x33, 0x50, 0xf1, 0xae, 0x9b, 0x48, 0xca, 0x26,
-    0xdc, 0xbb, 0xb9, 0x6f, 0xb8, 0x27, 0x2f, 0xd8,
+    0x00, 0x00, 0x00, 0x05, 0x00, 0x00, 0x00, 0x01, 0x00, 0x01, 0x02, 0x03, 0x04, 0x05, 0x06, 0x07,
+    0x08, 0x09, 0x0a, 0x0b, 0x0c, 0x0d, 0x0e, 0x0f, 0x4f, 0xb4, 0x50, 0xd0, 0x34, 0xa3, 0x1a, 0x3d,
+    0x67, 0x1f, 0xc5, 0x98, 0x0c, 0xa6, 0x33, 0xaa, 0x4d, 0x97, 0xf2, 0x1d, 0xf1, 0x74, 0x90, 0x7b,
+    0xfc, 0xcd, 0x1e, 0xf3, 0x63, 0x3f, 0x32, 0x9e,
 ];
 
 /// The clock that the guest asks for, and the message that it sends back: 1 to peer 1, `ping`.
@@ -112,7 +112,7 @@ fn judged(alloc: Global, entries: &[Entry<'_>], line: &str, status: u8) -> bool 
 
 #[test]
 fn a_message_comes_back(rt: HostRuntime) {
-    let key = key(rt.alloc(), 0x22).expect(&rt, "memory");
+    let key = quick_key(rt.alloc(), 0x22).expect(&rt, "memory");
     assert_eq!(rt; key.public(), PUBLIC);
     let ping = data(rt.alloc(), &key, 1, 0, 1).expect(&rt, "memory");
     let ack = ack(rt.alloc(), &key).expect(&rt, "memory");
@@ -141,7 +141,7 @@ fn a_message_comes_back(rt: HostRuntime) {
 
 #[test]
 fn messages_that_are_not_taken(rt: HostRuntime) {
-    let key = key(rt.alloc(), 0x22).expect(&rt, "memory");
+    let key = quick_key(rt.alloc(), 0x22).expect(&rt, "memory");
     // the sender, the receiver, and the message's number
     let rows: [(u32, u32, u64); 4] = [(1, 0, 2), (1, 0, 3), (1, 2, 1), (7, 0, 1)];
     for (from, to, number) in rows {
@@ -154,11 +154,12 @@ fn messages_that_are_not_taken(rt: HostRuntime) {
     }
 }
 
-/// The signature stands at 77: its leaf and its type, C at 85, the chains at 117, the tree's type at 1205 and the path at 1209.
+/// The signature stands at 77: its leaf and its type, C at 85, the chains at 117, the tree's type at 8597 and
+/// the path at 8601.
 #[test]
 fn a_changed_signature_is_not_taken(rt: HostRuntime) {
-    let key = key(rt.alloc(), 0x22).expect(&rt, "memory");
-    for at in [77, 80, 81, 84, 85, 117, 1204, 1205, 1208, 1209, 1368] {
+    let key = quick_key(rt.alloc(), 0x22).expect(&rt, "memory");
+    for at in [77, 80, 81, 84, 85, 117, 8596, 8597, 8600, 8601, 8760] {
         let mut packet = data(rt.alloc(), &key, 1, 0, 1).expect(&rt, "memory");
         if let Some(byte) = packet.get_mut(at) {
             *byte ^= 1;

@@ -1,4 +1,4 @@
-//! Keys of height 5 with digits of 8 bits, and what they sign.
+//! Keys of height 5, and what they sign.
 
 use avm_auth::{put_auth, signed_text};
 use avm_hash::Digest;
@@ -8,9 +8,14 @@ use std::alloc::Global;
 
 const ID: [u8; 16] = [0, 1, 2, 3, 4, 5, 6, 7, 8, 9, 10, 11, 12, 13, 14, 15];
 
-/// The key whose seed is this byte 32 times.
+/// The key with digits of 8 bits whose seed is this byte 32 times.
 pub fn key(alloc: Global, seed: u8) -> Option<LmsKey> {
     LmsKey::make(alloc, 5, 4, ID, Digest([seed; 32])).ok()
+}
+
+/// The key with digits of 1 bit: it takes the fewest hashes.
+pub fn quick_key(alloc: Global, seed: u8) -> Option<LmsKey> {
+    LmsKey::make(alloc, 5, 1, ID, Digest([seed; 32])).ok()
 }
 
 /// The signature of an entry's number and hash.

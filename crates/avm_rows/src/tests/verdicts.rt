@@ -3,7 +3,7 @@
 use super::building::{Entry, booted, origin_of};
 use super::entries::{CALL, HALT, OUT};
 use super::guests::PRINTS;
-use super::keys::{authenticator, key};
+use super::keys::{authenticator, quick_key};
 use super::signed::{Case, audit, checks_as};
 use Log::{Early, Good, Uncommitted};
 use avm_hash::Digest;
@@ -67,7 +67,8 @@ fn authenticators(alloc: Global, keys: &[LmsKey; 2], signed: &[Signed]) -> Optio
             None => Digest([0; 32]),
         };
         let key = if seed == OWN { &keys[0] } else { &keys[1] };
-        out.extend_from_slice(&authenticator(alloc, key, leaf, seq, &hash)?).ok()?;
+        out.extend_from_slice(&authenticator(alloc, key, leaf, seq, &hash)?)
+            .ok()?;
         leaf = leaf.wrapping_add(1);
     }
     Some(out)
@@ -87,7 +88,7 @@ fn ends_as(alloc: Global, case: &Case, line: &str, status: u8) -> Option<bool> {
 
 /// The place of the first row that ends otherwise, or their number.
 fn passed(alloc: Global, rows: &[Row<'_>]) -> Option<usize> {
-    let keys = [key(alloc, OWN)?, key(alloc, OTHER)?];
+    let keys = [quick_key(alloc, OWN)?, quick_key(alloc, OTHER)?];
     for (i, (log, signed, line, status)) in rows.iter().enumerate() {
         let case = Case {
             segment: segment(alloc, *log)?,
@@ -105,17 +106,82 @@ fn passed(alloc: Global, rows: &[Row<'_>]) -> Option<usize> {
 fn of_the_log_as_it_is_made(rt: HostRuntime) {
     let rows: [Row<'_>; 13] = [
         (Good, &[], "accepted 1 to 3 covered 0\n", 0),
-        (Good, &[(1, Some(Good), OWN), (2, Some(Good), OWN), (3, Some(Good), OWN)], "accepted 1 to 3 covered 3\n", 0),
-        (Good, &[(2, Some(Good), OWN), (1, Some(Good), OWN)], "accepted 1 to 3 covered 2\n", 0),
-        (Good, &[(3, Some(Good), OWN), (3, Some(Good), OWN)], "accepted 1 to 3 covered 3\n", 0),
-        (Good, &[(1, Some(Good), OWN), (9, None, OWN)], "refused unmatched 1\n", 2),
-        (Good, &[(1, Some(Good), OWN), (3, Some(Good), OTHER)], "refused badauth 1\n", 2),
-        (Good, &[(3, Some(Good), OTHER), (2, None, OWN), (2, Some(Good), OWN)], "refused badauth 0\n", 2),
-        (Good, &[(2, Some(Good), OWN), (2, Some(Early), OWN)], "fault double 0 1\n", 1),
-        (Good, &[(9, None, OWN), (1, Some(Good), OWN), (2, Some(Early), OWN), (2, None, OWN), (2, Some(Good), OWN)], "fault double 2 3\n", 1),
-        (Good, &[(3, Some(Good), OWN), (2, None, OWN)], "fault fork 1 0\n", 1),
-        (Good, &[(1, None, OWN), (2, None, OWN), (2, Some(Good), OWN)], "fault double 1 2\n", 1),
-        (Good, &[(2, Some(Good), OWN), (3, Some(Early), OWN)], "refused unmatched 1\n", 2),
+        (
+            Good,
+            &[
+                (1, Some(Good), OWN),
+                (2, Some(Good), OWN),
+                (3, Some(Good), OWN),
+            ],
+            "accepted 1 to 3 covered 3\n",
+            0,
+        ),
+        (
+            Good,
+            &[(2, Some(Good), OWN), (1, Some(Good), OWN)],
+            "accepted 1 to 3 covered 2\n",
+            0,
+        ),
+        (
+            Good,
+            &[(3, Some(Good), OWN), (3, Some(Good), OWN)],
+            "accepted 1 to 3 covered 3\n",
+            0,
+        ),
+        (
+            Good,
+            &[(1, Some(Good), OWN), (9, None, OWN)],
+            "refused unmatched 1\n",
+            2,
+        ),
+        (
+            Good,
+            &[(1, Some(Good), OWN), (3, Some(Good), OTHER)],
+            "refused badauth 1\n",
+            2,
+        ),
+        (
+            Good,
+            &[(3, Some(Good), OTHER), (2, None, OWN), (2, Some(Good), OWN)],
+            "refused badauth 0\n",
+            2,
+        ),
+        (
+            Good,
+            &[(2, Some(Good), OWN), (2, Some(Early), OWN)],
+            "fault double 0 1\n",
+            1,
+        ),
+        (
+            Good,
+            &[
+                (9, None, OWN),
+                (1, Some(Good), OWN),
+                (2, Some(Early), OWN),
+                (2, None, OWN),
+                (2, Some(Good), OWN),
+            ],
+            "fault double 2 3\n",
+            1,
+        ),
+        (
+            Good,
+            &[(3, Some(Good), OWN), (2, None, OWN)],
+            "fault fork 1 0\n",
+            1,
+        ),
+        (
+            Good,
+            &[(1, None, OWN), (2, None, OWN), (2, Some(Good), OWN)],
+            "fault double 1 2\n",
+            1,
+        ),
+        (
+            Good,
+            &[(2, Some(Good), OWN), (3, Some(Early), OWN)],
+            "refused unmatched 1\n",
+            2,
+        ),
         (Good, &[(2, None, OWN)], "refused unmatched 0\n", 2),
     ];
     assert_eq!(rt; passed(rt.alloc(), &rows), Some(rows.len()));
@@ -127,16 +193,61 @@ fn of_a_log_that_is_not(rt: HostRuntime) {
         (Early, &[(3, Some(Early), OWN)], "fault replay 2\n", 1),
         (Early, &[(2, Some(Early), OWN)], "fault replay 2\n", 1),
         (Early, &[(1, Some(Early), OWN)], "refused uncovered 2\n", 2),
-        (Early, &[(9, None, OWN), (3, Some(Early), OWN)], "fault replay 2\n", 1),
-        (Early, &[(3, Some(Early), OWN), (2, Some(Good), OWN)], "fault fork 1 0\n", 1),
-        (Early, &[(3, Some(Early), OWN), (3, Some(Good), OWN)], "fault double 0 1\n", 1),
-        (Early, &[(3, Some(Early), OWN), (2, Some(Good), OWN), (2, None, OWN)], "fault double 1 2\n", 1),
-        (Early, &[(1, Some(Early), OWN), (3, Some(Good), OWN)], "refused uncovered 2\n", 2),
+        (
+            Early,
+            &[(9, None, OWN), (3, Some(Early), OWN)],
+            "fault replay 2\n",
+            1,
+        ),
+        (
+            Early,
+            &[(3, Some(Early), OWN), (2, Some(Good), OWN)],
+            "fault fork 1 0\n",
+            1,
+        ),
+        (
+            Early,
+            &[(3, Some(Early), OWN), (3, Some(Good), OWN)],
+            "fault double 0 1\n",
+            1,
+        ),
+        (
+            Early,
+            &[(3, Some(Early), OWN), (2, Some(Good), OWN), (2, None, OWN)],
+            "fault double 1 2\n",
+            1,
+        ),
+        (
+            Early,
+            &[(1, Some(Early), OWN), (3, Some(Good), OWN)],
+            "refused uncovered 2\n",
+            2,
+        ),
         (Early, &[(9, None, OWN)], "refused uncovered 2\n", 2),
-        (Early, &[(2, Some(Early), OWN), (3, Some(Good), OWN)], "fault replay 2\n", 1),
-        (Uncommitted, &[(2, Some(Good), OWN), (2, Some(Early), OWN)], "fault double 0 1\n", 1),
-        (Uncommitted, &[(3, Some(Good), OWN)], "refused uncommitted\n", 2),
-        (Uncommitted, &[(3, Some(Good), OTHER)], "refused badauth 0\n", 2),
+        (
+            Early,
+            &[(2, Some(Early), OWN), (3, Some(Good), OWN)],
+            "fault replay 2\n",
+            1,
+        ),
+        (
+            Uncommitted,
+            &[(2, Some(Good), OWN), (2, Some(Early), OWN)],
+            "fault double 0 1\n",
+            1,
+        ),
+        (
+            Uncommitted,
+            &[(3, Some(Good), OWN)],
+            "refused uncommitted\n",
+            2,
+        ),
+        (
+            Uncommitted,
+            &[(3, Some(Good), OTHER)],
+            "refused badauth 0\n",
+            2,
+        ),
         (Uncommitted, &[(9, None, OWN)], "refused uncommitted\n", 2),
     ];
     assert_eq!(rt; passed(rt.alloc(), &rows), Some(rows.len()));
