@@ -1,6 +1,6 @@
 //! Segments made from a guest's words and a list of entries.
 
-ghost use Rattle.std.specs.Prelude.{IsTrue, ◌-◌, ◌^◌, ◌≤◌};
+ghost use Rattle.std.specs.Prelude.{IsTrue, IfSome, None, ◌≡◌, ◌-◌, ◌^◌, ◌≤◌};
 ghost use Rattle.avm_model.specs.Bounds.{are_rows, none_past};
 
 use avm_hash::Digest;
@@ -33,8 +33,25 @@ fn put_words(ram: &mut Ram, words: &[u32]) {
     }
 }
 
-/// The state before the first step of a guest of one page, whose own id is 0.
-#[tactic(auto, unfolding(avm_num::specs::Room::left), using(guest_machine::proofs::Heads::new_head))]
+/// The machine that boots with this RAM, whose own id is 0.
+#[tactic(auto, using(guest_machine::proofs::Heads::new_head))]
+fn booting(alloc: Global, ram: Ram, snap: u32, rows: Vec<Peer>) -> Option<Machine>
+    requires least { 1024 ≤ snap }
+    requires most { snap ≤ 2 ^ 24 }
+    requires rows { IsTrue (are_rows 0 0 rows.items) }
+    requires none { IsTrue (none_past 0 rows.items) }
+    requires sent { IsTrue (none_past (2 ^ 62 - 1) rows.items) }
+    ensures { IfSome result (λ m. m.state.devices.clock ≡ None) }
+{
+    let Ok(devices) = Devices::new(alloc, 0, rows) else {
+        return None;
+    };
+    let _pages = ram.pages();
+    Some(Machine::new(devices, ram, snap, 0x8000_0000))
+}
+
+/// The state before the first step of a guest of one page.
+#[tactic(auto, unfolding(avm_num::specs::Room::left))]
 pub fn origin_of(alloc: Global, words: &[u32], snap: u32, rows: Vec<Peer>) -> Option<Origin>
     requires least { 1024 ≤ snap }
     requires most { snap ≤ 2 ^ 24 }
@@ -46,8 +63,7 @@ pub fn origin_of(alloc: Global, words: &[u32], snap: u32, rows: Vec<Peer>) -> Op
     put_words(&mut ram, words);
     let tree = Tree::build(alloc, &mut ram).ok()?;
     let pages = Vec::from_slice(alloc, ram.bytes()).ok()?;
-    let devices = Devices::new(alloc, 0, rows).ok()?;
-    let machine = Machine::new(devices, ram, snap, 0x8000_0000);
+    let machine = booting(alloc, ram, snap, rows)?;
     let mut head = Room::new(alloc, head_len(&machine)).ok()?;
     put_head(&mut head, &machine);
     Some(Origin {
