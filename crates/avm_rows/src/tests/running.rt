@@ -64,3 +64,8 @@ pub fn audits_as(alloc: Global, segment: &[u8], line: &str, status: u8) -> bool 
         None => false,
     }
 }
+
+/// The first bytes, so many; none where there are fewer.
+pub fn cut(bytes: &[u8], len: usize) -> &[u8] {
+    bytes.get(..len).unwrap_or(&[])
+}

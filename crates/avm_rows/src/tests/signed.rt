@@ -4,7 +4,7 @@ use super::building::{Entry, alone};
 use super::entries::{CALL, HALT, OUT};
 use super::guests::PRINTS;
 use super::keys::{authenticator, key};
-use super::running::{Ran, run, run_failing};
+use super::running::{Ran, cut, run, run_failing};
 use avm_hash::Digest;
 use lms_tree::LmsKey;
 use log_chain::chain;
@@ -118,7 +118,15 @@ fn evidence_is_checked(rt: HostRuntime) {
     let other = key(rt.alloc(), 0x12).expect(&rt, "memory").public();
     assert!(rt; checks_as(rt.alloc(), &public, &bytes, "evidence stands\n", 0));
     assert!(rt; checks_as(rt.alloc(), &other, &bytes, "refused evidence\n", 2));
-    assert!(rt; checks_as(rt.alloc(), &public[..55], &bytes, "refused file --key\n", 3));
+    assert!(rt;
+        checks_as(
+            rt.alloc(),
+            cut(&public, 55),
+            &bytes,
+            "refused file --key\n",
+            3
+        )
+    );
     for at in 0..bytes.len() {
         if at % 61 == 0 {
             raise(&mut bytes, at, 1);
