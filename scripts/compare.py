@@ -12,8 +12,6 @@ import model as m
 from model import u32, u64
 
 ZERO = bytes(32)
-# whether the program judges images yet
-IMAGES_BUILT = False
 HELLO = "100002b7 04800313 0062a023 00a00313 0062a023 00000073"
 ECHO = """100002b7 10001337 100023b7 0002a823 0042a403 00044a63 00400493 06940063 0082a023 fe9ff06f 0142a483 fe04c0e3
 0182a503 02a2a023 0292a223 00000593 0095de63 00b30633 00062683 00b38733 00d72023 00458593 fe9ff06f 0002ae23
@@ -55,9 +53,6 @@ class Comparison:
         path = os.path.join(self.folder, "evidence")
         if os.path.exists(path):
             os.remove(path)
-        if image is not None and not IMAGES_BUILT:
-            self.expect(case, words, "refused notbuilt", 2)
-            return
         if image is not None and m.image_fault(image):
             self.expect(case, words, "refused file --image", 3)
             return
@@ -242,6 +237,61 @@ def signed(c):
                              "auths", "--evidence", "e"], "refused file --key", 3)
 
 
+def elf(segments, entry=0x80000000, flags=0, kind=2, count=None, size=32):
+    """An executable of these (address, bytes, memory size); the bytes stand behind the table, in this order."""
+    at, table, body = 52 + 32 * len(segments), b"", b""
+    for address, data, memory in segments:
+        table += struct.pack("<8I", 1, at + len(body), address, address, len(data), memory, 5, 4)
+        body += data
+    return (b"\x7fELF\x01\x01\x01" + bytes(9) + struct.pack("<HHIIIIIHHHHHH", kind, 243, 1, entry, 52, 0, flags, 52, size,
+            len(segments) if count is None else count, 0, 0, 0) + table + body)
+
+
+def images(c):
+    hello = m.words(HELLO)
+    at = 0x80000000
+    for name, image, pages in [
+            ("one segment", elf([(at, hello, len(hello))]), 1), ("zeros behind", elf([(at, hello, 4096)]), 1),
+            ("a later one over an earlier one", elf([(at, b"\xff" * 24, 24), (at, hello, 24)]), 1),
+            ("an earlier one over a later one", elf([(at, hello, 24), (at, b"\xff" * 24, 24)]), 1),
+            ("two halves", elf([(at + 12, hello[12:], 12), (at, hello[:12], 12)]), 1),
+            ("entry behind the front", elf([(at + 64, hello, 24)], entry=at + 64), 1), ("entry odd", elf([(at, hello, 24)], entry=at + 2), 1),
+            ("entry outside", elf([(at, hello, 24)], entry=at + 4096), 1), ("outside", elf([(at + 4073, hello, 24)]), 1),
+            ("below RAM", elf([(at - 4, hello, 24)]), 1), ("wraps", elf([(at, hello, 24), (0xffffffff, b"a", 2)]), 1),
+            ("compressed", elf([(at, hello, 24)], flags=1), 1), ("no executable", elf([(at, hello, 24)], kind=3), 1),
+            ("no header", elf([]), 1), ("65 headers", elf([(at, hello, 24)] * 65), 1), ("64 headers", elf([(at, hello, 24)] * 64), 1),
+            ("entries of 33", elf([(at, hello, 24)], size=33), 1), ("more in the file", elf([(at, hello, 23)]), 1),
+            ("cut", elf([(at, hello, 24)])[:-1], 1), ("two pages", elf([(at, hello, 24), (at + 4096, b"", 4096)]), 2),
+            ("two pages of RAM, one loaded", elf([(at, hello, 24)]), 2), ("longer than RAM", hello.ljust(4097, b"\0"), 1)]:
+        loaded = m.load_image(image, pages)
+        if not isinstance(loaded, str):
+            state = m.Machine(ram=loaded[0], pages=pages, pc=loaded[1])
+            c.audit("ELF, its machine: " + name, segment_of(state, m.record(state, 100)[0]), image=image)
+        state, _ = machine(HELLO, pages=pages)
+        frames, _ = m.record(state, 100)
+        c.audit("ELF: " + name, segment_of(state, frames), image=image)
+        late = [frames[0], recount(frames[1], 4), frames[2]]
+        c.audit("ELF, a fault: " + name, segment_of(state, late), image=image)
+    for limit in (1 << 25, (1 << 25) + 1):
+        long = elf([(at, hello, 24)]).ljust(limit, b"\0")
+        state, _ = machine(HELLO)
+        words = ["audit", "--segment", c.put("segment", segment_of(state, m.record(state, 100)[0])), "--image", c.put("image", long)]
+        c.expect("an image of %d bytes" % limit, words, *(("refused file --image", 3) if limit > 1 << 25 else ("accepted 1 to 3 covered 0", 0)))
+    # the order in which files are judged
+    key = m.Key(5, 4, bytes(range(16)), b"\x11" * 32).public()
+    c.put("good.image", hello), c.put("bad.image", b""), c.put("good.key", key), c.put("bad.key", key[:55]), c.put("no.segment", b"x")
+    c.put("no.auths", b"x")
+    for segment, image, name, auths, line, status in [
+            ("absent", "bad.image", "bad.key", "absent", "refused file --segment", 3),
+            ("no.segment", "absent", "bad.key", "absent", "refused file --image", 3),
+            ("no.segment", "bad.image", "bad.key", "absent", "refused file --image", 3),
+            ("no.segment", "good.image", "bad.key", "absent", "refused file --key", 3),
+            ("no.segment", "good.image", "good.key", "absent", "refused file --auths", 3),
+            ("no.segment", "good.image", "good.key", "no.auths", "refused malformed", 2)]:
+        words = ["audit", "--evidence", "e", "--auths", auths, "--key", name, "--image", image, "--segment", segment]
+        c.expect("order: " + " ".join(words), words, line, status)
+
+
 def random_guests(c, rounds):
     r = random.Random(4)
     for n in range(rounds):
@@ -285,6 +335,7 @@ def main():
     inputs(c)
     messages(c)
     signed(c)
+    images(c)
     random_guests(c, 60)
     damaged(c, 120)
     for line in c.failed[:40]:

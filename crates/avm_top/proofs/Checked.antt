@@ -11,7 +11,7 @@ use Rattle.avm_top.specs.declared.ends.FileOption.TheVariants.{Key, Evidence}
 use Rattle.avm_top.specs.declared.fault.Fault.{Fault}
 use Rattle.avm_top.specs.FileMap.{FileMap, SameFiles}
 use Rattle.avm_top.specs.Reading.{Finds, ReadsAs, IsReadAs, bytes_of}
-use Rattle.avm_top.specs.KeyFile.{IsKeyFile, IsKeyRead}
+use Rattle.avm_top.specs.Tested.{IsTested, IsTestedRead}
 use Rattle.avm_top.specs.Check.{StandsOrNot, CheckEnd, CheckEnds, refused_check}
 
 found_of : (told : Option (Option (List ℕ))) → (found : Option (List ℕ)) × Finds told found
@@ -21,7 +21,7 @@ found_of (Some found) = (found, refl)
 finds_before : (before now : Option (Option (List ℕ))) (found : Option (List ℕ)) → now ≡ before → Finds now found → Finds before found
 finds_before before now found same finds = subst (λ (t : Option (Option (List ℕ))). Finds t found) same finds
 
-no_key : (k bytes : Option (List ℕ)) → IsKeyFile k None → refused_check k bytes ≡ Some Key
+no_key : (k bytes : Option (List ℕ)) → IsTested public_file k None → refused_check k bytes ≡ Some Key
 no_key None bytes bad = refl
 no_key (Some k) None bad = rw bad refl
 no_key (Some k) (Some bytes) bad = rw bad refl
@@ -29,16 +29,16 @@ no_key (Some k) (Some bytes) bad = rw bad refl
 refused : (k bytes : Option (List ℕ)) (option : FileOption) → refused_check k bytes ≡ Some option → CheckEnd (bytes_of k) (bytes_of bytes) (refused_check k bytes) (end.RefusedFile option)
 refused k bytes option is = subst (λ (o : Option FileOption). CheckEnd (bytes_of k) (bytes_of bytes) o (end.RefusedFile option)) (sym is) refl
 
-pub check_no_key : (key evidence : List ℕ) (old : FileMap) → IsKeyRead (old key) None → CheckEnds key evidence old (end.RefusedFile Key)
+pub check_no_key : (key evidence : List ℕ) (old : FileMap) → IsTestedRead public_file (old key) None → CheckEnds key evidence old (end.RefusedFile Key)
 check_no_key key evidence old read =
     let bytes = found_of (old evidence) in
     (read.0, bytes.0, read.1, bytes.1, refused read.0 bytes.0 Key (no_key read.0 bytes.0 read.2))
 
-no_evidence : (k bytes : Option (List ℕ)) (key : List ℕ) → IsKeyFile k (Some key) → ReadsAs evidence_at bytes None → refused_check k bytes ≡ Some Evidence
+no_evidence : (k bytes : Option (List ℕ)) (key : List ℕ) → IsTested public_file k (Some key) → ReadsAs evidence_at bytes None → refused_check k bytes ≡ Some Evidence
 no_evidence k None key is read = let name : k ≡ Some key = is.0 in let good : public_file key ≡ true = is.1 in rw (name, good) refl
 no_evidence k (Some bytes) key is read = absurd read
 
-pub check_no_evidence : (key evidence : List ℕ) (old mid : FileMap) (k : List ℕ) → SameFiles old mid → IsKeyRead (old key) (Some k) → IsReadAs evidence_at (mid evidence) None → CheckEnds key evidence old (end.RefusedFile Evidence)
+pub check_no_evidence : (key evidence : List ℕ) (old mid : FileMap) (k : List ℕ) → SameFiles old mid → IsTestedRead public_file (old key) (Some k) → IsReadAs evidence_at (mid evidence) None → CheckEnds key evidence old (end.RefusedFile Evidence)
 check_no_evidence key evidence old mid k same read bytes =
     (read.0, bytes.0, read.1, finds_before (old evidence) (mid evidence) bytes.0 (same evidence) bytes.1, refused read.0 bytes.0 Evidence (no_evidence read.0 bytes.0 k read.2 bytes.2))
 
@@ -52,7 +52,7 @@ told_same key s t e same told =
       | inr bad ↦ inr (bad.0, λ stands. bad.1 (stands_same key t s (sym same) stands))
     ]
 
-judged : (k bytes : Option (List ℕ)) (key got : List ℕ) (e : End) → IsKeyFile k (Some key) → ReadsAs evidence_at bytes (Some got) → StandsOrNot key got e → CheckEnd (bytes_of k) (bytes_of bytes) (refused_check k bytes) e
+judged : (k bytes : Option (List ℕ)) (key got : List ℕ) (e : End) → IsTested public_file k (Some key) → ReadsAs evidence_at bytes (Some got) → StandsOrNot key got e → CheckEnd (bytes_of k) (bytes_of bytes) (refused_check k bytes) e
 judged k None key got e is read told = absurd read
 judged None (Some bytes) key got e is read told = let none : None ≡ Some key = is.0 in cc
 judged (Some k) (Some bytes) key got e is read told =
@@ -63,7 +63,7 @@ judged (Some k) (Some bytes) key got e is read told =
     subst (λ (b : Bool). CheckEnd k bytes (if b then None else Some Key) e) (sym good) whole
 
 -- the end by both files
-pub check_told : (key evidence : List ℕ) (old mid : FileMap) (k got : List ℕ) (r : Result End Fault) → SameFiles old mid → IsKeyRead (old key) (Some k) → IsReadAs evidence_at (mid evidence) (Some got) → IfOk r (StandsOrNot k got) → IfOk r (λ e. CheckEnds key evidence old e)
+pub check_told : (key evidence : List ℕ) (old mid : FileMap) (k got : List ℕ) (r : Result End Fault) → SameFiles old mid → IsTestedRead public_file (old key) (Some k) → IsReadAs evidence_at (mid evidence) (Some got) → IfOk r (StandsOrNot k got) → IfOk r (λ e. CheckEnds key evidence old e)
 check_told key evidence old mid k got (Err f) same read bytes told = tt
 check_told key evidence old mid k got (Ok e) same read bytes told =
     (read.0, bytes.0, read.1, finds_before (old evidence) (mid evidence) bytes.0 (same evidence) bytes.1, judged read.0 bytes.0 k got e read.2 bytes.2 told)

@@ -9,7 +9,8 @@ use Rattle.avm_model.specs.Segment.{SegmentFront, segment_of, segment_front_at, 
 use Rattle.avm_model.specs.Audit.{auths_within}
 use Rattle.avm_model.specs.Evidence.{evidence_at, longest_evidence}
 use Rattle.avm_top.specs.Reading.{IsReadOf, ReadsAs, IsReadAs}
-use Rattle.avm_top.specs.KeyFile.{IsKeyFile, IsKeyRead}
+use Rattle.avm_top.specs.ImageFile.{image_file}
+use Rattle.avm_top.specs.Tested.{IsTested, IsTestedRead}
 
 -- a function that gives one value for all that is longer than a limit
 pub cut_same : {B : Type 0} (f : List ℕ → B) (none : B) (limit : ℕ) → ((bytes : List ℕ) → limit < length bytes → f bytes ≡ none) → (bytes : List ℕ) → f (take (limit + 1) bytes) ≡ f bytes
@@ -70,34 +71,43 @@ pub read_ok : {B V E : Type 0} (f : List ℕ → B) (none : B) (limit : ℕ) →
 read_ok f none limit long told items (Ok got) read = read_as f none limit long told (option_map items got) read
 read_ok f none limit long told items (Err e) read = tt
 
-key_length : (bytes : List ℕ) → public_file bytes ≡ true → length bytes ≡ 56
-unfolding public_file
-key_length bytes good = grind arith
+pub image_long : (bytes : List ℕ) → 2 ^ 25 < length bytes → image_file bytes ≡ false
+unfolding image_file
+image_long bytes more = rw (lt-leb (length bytes) (2 ^ 25) more) refl
 
-key_whole : (bytes got : List ℕ) → got ≡ take 57 bytes → length got ≡ 56 → got ≡ bytes
-key_whole bytes got cut size =
-    elim (cases_lt 57 (length bytes)) [
+-- what passes a test that nothing longer passes was read whole
+tested_whole : (test : List ℕ → Bool) (limit : ℕ) → ((bytes : List ℕ) → limit < length bytes → test bytes ≡ false) → (bytes got : List ℕ) → got ≡ take (limit + 1) bytes → test got ≡ true → got ≡ bytes
+tested_whole test limit long bytes got cut good =
+    elim (cases_lt limit (length bytes)) [
       | inl more ↦
-          let long : length (take 57 bytes) ≡ 57 = length-take-le 57 bytes (omega arith) in
-          let same : length got ≡ length (take 57 bytes) = ap length cut in
-          absurd (omega (arith, long, same, size))
-      | inr less ↦ cut ∙ take_all 57 bytes less
+          let size : length (take (limit + 1) bytes) ≡ limit + 1 = length-take-le (limit + 1) bytes (omega arith) in
+          let same : length got ≡ length (take (limit + 1) bytes) = ap length cut in
+          let bad : test got ≡ false = long got (omega (arith, size, same)) in
+          absurd (let no : true ≡ false = sym good ∙ bad in cc)
+      | inr less ↦ cut ∙ take_all (limit + 1) bytes (omega arith)
     ]
 
-key_found : (found : Option (List ℕ)) (got : List ℕ) (key : Option (List ℕ)) → Some got ≡ option_map (take 57) found → IsKeyFile (Some got) key → IsKeyFile found key
-key_found None got key read is = let none : Some got ≡ None = read in cc
-key_found (Some bytes) got None read is =
-    let cut : got ≡ take 57 bytes = cc in
-    let same : public_file (take 57 bytes) ≡ public_file bytes = cut_same public_file false 56 key_long bytes in
-    sym same ∙ (ap public_file (sym cut) ∙ is)
-key_found (Some bytes) got (Some key) read is =
-    let cut : got ≡ take 57 bytes = cc in
-    let first : Some got ≡ Some key = is.0 in
-    let named : got ≡ key = cc in
-    let good : public_file key ≡ true = is.1 in
-    let size : length got ≡ 56 = key_length got (ap public_file named ∙ good) in
-    (ap (λ (l : List ℕ). Some l) (sym (key_whole bytes got cut size) ∙ named), good)
+tested_found : (test : List ℕ → Bool) (limit : ℕ) → ((bytes : List ℕ) → limit < length bytes → test bytes ≡ false) → (found : Option (List ℕ)) (got : List ℕ) (o : Option (List ℕ)) → Some got ≡ option_map (take (limit + 1)) found → IsTested test (Some got) o → IsTested test found o
+tested_found test limit long None got o read is = let none : Some got ≡ None = read in cc
+tested_found test limit long (Some bytes) got None read is =
+    let cut : got ≡ take (limit + 1) bytes = cc in
+    let same : test (take (limit + 1) bytes) ≡ test bytes = cut_same test false limit long bytes in
+    sym same ∙ (ap test (sym cut) ∙ is)
+tested_found test limit long (Some bytes) got (Some whole) read is =
+    let cut : got ≡ take (limit + 1) bytes = cc in
+    let first : Some got ≡ Some whole = is.0 in
+    let named : got ≡ whole = cc in
+    let good : test whole ≡ true = is.1 in
+    (ap (λ (l : List ℕ). Some l) (sym (tested_whole test limit long bytes got cut (ap test named ∙ good)) ∙ named), good)
 
--- a public key's file, of which a byte more than a key was read
-pub key_read : (told : Option (Option (List ℕ))) (got : List ℕ) (key : Option (List ℕ)) → IsReadOf 56 told (Some got) → IsKeyFile (Some got) key → IsKeyRead told key
-key_read told got key read is = (read.0, read.1, key_found read.0 got key read.2 is)
+-- a file that has to pass a test, of which a byte more than the limit was read
+pub tested_read : (test : List ℕ → Bool) (limit : ℕ) → ((bytes : List ℕ) → limit < length bytes → test bytes ≡ false) → (told : Option (Option (List ℕ))) (got : List ℕ) (o : Option (List ℕ)) → IsReadOf limit told (Some got) → IsTested test (Some got) o → IsTestedRead test told o
+tested_read test limit long told got o read is = (read.0, read.1, tested_found test limit long read.0 got o read.2 is)
+
+tested_gone : (test : List ℕ → Bool) (limit : ℕ) (found : Option (List ℕ)) → None ≡ option_map (take (limit + 1)) found → IsTested test found None
+tested_gone test limit None is = tt
+tested_gone test limit (Some bytes) is = let none : ◌≡◌ {A = Option (List ℕ)} None (Some (take (limit + 1) bytes)) = is in cc
+
+-- such a file that isn't there
+pub tested_missing : (test : List ℕ → Bool) (limit : ℕ) (told : Option (Option (List ℕ))) → IsReadOf limit told None → IsTestedRead test told None
+tested_missing test limit told read = (read.0, read.1, tested_gone test limit read.0 read.2)

@@ -1,49 +1,53 @@
 -- What the statuses of an audit and of a check say.
-use Rattle.std.proofs.Common.{◌≡◌, ◌≢◌, ℕ, Bool, true, false, if◌then◌else◌, List, [], Option, None, Some, ◌⊎◌, inl, inr, refl, sym, ◌∙◌, ap, subst, arith}
+use Rattle.std.proofs.Common.{◌≡◌, ◌≢◌, ◌++◌, ℕ, Bool, true, false, if◌then◌else◌, List, [], Option, None, Some, option_map, ◌⊎◌, inl, inr, refl, sym, ◌∙◌, ap, subst, arith}
 use Rattle.avm_num.specs.Bytes.{◌>>=◌}
 use Rattle.avm_num.specs.Walk.{items_of, behind_of}
+use Rattle.avm_model.specs.Basics.{or_else}
 use Rattle.avm_model.specs.Keys.{public_file}
 use Rattle.avm_model.specs.Job.{JobData, SignedData, audit, check}
-use Rattle.avm_model.specs.Auth.{AuthData}
 use Rattle.avm_model.specs.Segment.{SegmentData, whole_segment_of}
 use Rattle.avm_model.specs.Head.{HeadData}
 use Rattle.avm_model.specs.Verdict.{Case, verdict, marks}
 use Rattle.avm_model.specs.Audit.{Judged, auths_within, judged_of, case_of, IsVerdict, IsVerdictOn, IsAcceptedBytes, accepted_as}
-use Rattle.avm_model.specs.Evidence.{EvidData, evidence_bytes}
+use Rattle.avm_model.specs.Evidence.{EvidData}
 use Rattle.avm_model.specs.Holds.{Stands, has_evidence}
 use Rattle.avm_model.specs.declared.judged.Verdict.{Verdict}
 use Rattle.avm_model.specs.declared.judged.Verdict.TheVariants as verdicts
-use Rattle.avm_outside.specs.Outside.{Rises}
-use Rattle.evid_file.specs.Pieces.{Written}
 use Rattle.avm_top.specs.declared.ends.End.{End}
 use Rattle.avm_top.specs.declared.ends.End.TheVariants as end
 use Rattle.avm_top.specs.declared.ends.FileOption.{FileOption}
-use Rattle.avm_top.specs.declared.ends.FileOption.TheVariants.{Segment, Key, Auths, Evidence}
-use Rattle.avm_top.specs.Ends.{status_of, status_of_verdict}
+use Rattle.avm_top.specs.declared.ends.FileOption.TheVariants.{Segment, Image, Key, Auths, Evidence}
+use Rattle.avm_top.specs.Ends.{status_of, status_of_verdict, line}
 use Rattle.avm_top.specs.FileMap.{FileMap}
+use Rattle.avm_top.specs.ImageFile.{image_file}
 use Rattle.avm_top.specs.Reading.{Finds, bytes_of}
-use Rattle.avm_top.specs.Audit.{IsJudged, PlainEnd, PlainEnds, Found, AreFound, SignedEnd, SignedEnds, JudgedEnd, LeavesEvidence, AuditEnds, refused_input, evidence_for, no_key}
+use Rattle.avm_top.specs.Subject.{FoundSubject, FindsNamed, IsSubjectFound, image_of, refused_first, refused_subject}
+use Rattle.avm_top.specs.Audit.{IsJudged, VerdictEnd, PlainJudged, PlainEnd, PlainEnds, Found, AreFound, SignedEnd, SignedEnds, JudgedEnd, LeavesEvidence, AuditEnds, refused_signed, refused_input, evidence_for, no_key}
 use Rattle.avm_top.specs.Check.{StandsOrNot, CheckEnd, CheckEnds, refused_check}
 use Rattle.avm_top.specs.Jobs.{EndsAs}
-use Rattle.avm_top.specs.Outcomes.{Outcome, Ended, NoMemory, FaultFiles, Reaches, status_of_outcome}
+use Rattle.avm_top.specs.Outcomes.{Outcome, Ended, NoMemory, FaultFiles, Reaches, status_of_outcome, text_of_outcome}
 use Rattle.avm_top.specs.Printing.{Printed}
-use Rattle.avm_top.specs.Meaning.{Tells, AreGiven, IsShown, EvidenceShown, AuditMeans, CheckMeans}
+use Rattle.avm_top.specs.Meaning.{Tells, Given, IsImageGiven, AreGiven, BeginsAsGiven, IsShown, IsPrinted, EvidenceShown, AuditMeans, CheckMeans}
 
 -- ---- from the outcome to the end
 
-pub status_is : (bytes : List ℕ) (status before now : ℕ) (old new : Option (List ℕ)) (result : ℕ) → Printed bytes status before now old new result → (result ≡ status) ⊎ (result ≡ 4)
-status_is bytes status before now old new result printed = elim printed [ inl whole ↦ inl whole.0 | inr cut ↦ inr cut.0 ]
+-- the status of an outcome with its line behind what was printed, or a print that failed
+abbrev pub IsSpoken : Outcome → Option (List ℕ) → Option (List ℕ) → ℕ → Type 0
+IsSpoken o before after result = ((result ≡ status_of_outcome o) × (after ≡ option_map (λ was. was ++ line (text_of_outcome o)) before)) ⊎ (result ≡ 4)
 
-abbrev IsEnded : Option JobData → FileMap → FileMap → ℕ → Type 0
-IsEnded job old new n = (e : End) × EndsAs job old new e × (status_of e ≡ n)
+pub spoken : (o : Outcome) (f g : ℕ) (before after : Option (List ℕ)) (result : ℕ) → Printed (line (text_of_outcome o)) (status_of_outcome o) f g before after result → IsSpoken o before after result
+spoken o f g before after result printed = elim printed [ inl whole ↦ inl (whole.0, whole.2) | inr cut ↦ inr cut.0 ]
 
-ended : (job : Option JobData) (old new : FileMap) (before now result n : ℕ) (o : Outcome) → Reaches o job old new before now → (result ≡ status_of_outcome o) ⊎ (result ≡ 4) → result ≡ n → n ≢ 4 → n ≢ 5 → IsEnded job old new n
-ended job old new before now result n (Ended e) reaches status is not4 not5 =
-    elim status [ inl s ↦ (e, reaches.0, sym s ∙ is) | inr four ↦ absurd (not4 (sym is ∙ four)) ]
-ended job old new before now result n NoMemory reaches status is not4 not5 =
-    elim status [ inl five ↦ absurd (not5 (sym is ∙ five)) | inr four ↦ absurd (not4 (sym is ∙ four)) ]
-ended job old new before now result n FaultFiles reaches status is not4 not5 =
-    elim status [ inl four ↦ absurd (not4 (sym is ∙ four)) | inr four ↦ absurd (not4 (sym is ∙ four)) ]
+abbrev IsEnded : Option JobData → FileMap → FileMap → Option (List ℕ) → Option (List ℕ) → ℕ → Type 0
+IsEnded job old new before after n = (e : End) × EndsAs job old new e × (status_of e ≡ n) × IsPrinted e before after
+
+ended : (job : Option JobData) (old new : FileMap) (f g : ℕ) (before after : Option (List ℕ)) (result n : ℕ) (o : Outcome) → Reaches o job old new f g → IsSpoken o before after result → result ≡ n → n ≢ 4 → n ≢ 5 → IsEnded job old new before after n
+ended job old new f g before after result n (Ended e) reaches status is not4 not5 =
+    elim status [ inl s ↦ (e, reaches.0, sym s.0 ∙ is, s.1) | inr four ↦ absurd (not4 (sym is ∙ four)) ]
+ended job old new f g before after result n NoMemory reaches status is not4 not5 =
+    elim status [ inl five ↦ absurd (not5 (sym is ∙ five.0)) | inr four ↦ absurd (not4 (sym is ∙ four)) ]
+ended job old new f g before after result n FaultFiles reaches status is not4 not5 =
+    elim status [ inl four ↦ absurd (not4 (sym is ∙ four.0)) | inr four ↦ absurd (not4 (sym is ∙ four)) ]
 
 -- ---- verdicts by their statuses
 
@@ -96,132 +100,280 @@ alone_on s (Some d) v is judged =
     let c : Case = case_of no_key d judged.0 in
     ap has_evidence judged.2 ∙ alone c c.committed c.fault refl refl (judged_alone s d is)
 
--- ---- an audit without authenticators
+-- ---- the end of a verdict
 
-plain_zero_at : (told : Option (Option (List ℕ))) (found : Option (List ℕ)) (e : End) → Finds told found → PlainEnd found e → status_of e ≡ 0 → (s : List ℕ) × Finds told (Some s) × IsAcceptedBytes no_key s []
-plain_zero_at told None e finds ends zero =
-    let three : status_of e ≡ 3 = ap status_of ends in
-    absurd (omega (arith, three, zero))
-plain_zero_at told (Some s) e finds ends zero =
-    let status : status_of e ≡ status_of_verdict ends.0 = ap status_of ends.2 in
-    let row = zero_verdict ends.0 (sym status ∙ zero) in
-    (s, finds, ends.1.1.only row.0 row.1 row.2 row.3)
+-- the verdict's own end, with which the image fits where it is accepted, or an accepted segment that the image doesn't fit
+abbrev EndCases : Option (List ℕ) → Option (SegmentData × HeadData) → Verdict → End → Type 0
+EndCases image w v e =
+    ((e ≡ end.Judged v) × (status_of_verdict v ≡ 0 → BeginsAsGiven image w)) ⊎ ((e ≡ end.RefusedImage) × (BeginsAsGiven image w → ⊥))
 
-plain_one_at : (found : Option (List ℕ)) (e : End) → PlainEnd found e → status_of e ≡ 1 → ⊥
-plain_one_at None e ends one =
-    let three : status_of e ≡ 3 = ap status_of ends in
-    omega (arith, three, one)
-plain_one_at (Some s) e ends one =
-    let status : status_of e ≡ status_of_verdict ends.0 = ap status_of ends.2 in
-    let some : has_evidence ends.0 ≡ true = one_verdict ends.0 (sym status ∙ one) in
-    let lone : has_evidence ends.0 ≡ false = alone_on s (judged_of s []) ends.0 refl ends.1.0 in
-    cc
+end_cases : (image : Option (List ℕ)) (w : Option (SegmentData × HeadData)) (v : Verdict) (e : End) → VerdictEnd image w v e → EndCases image w v e
+end_cases None w v e ends = inl (ends, λ zero. tt)
+end_cases (Some image) w verdicts.Malformed e ends = inl (ends, λ zero. absurd (omega (arith, zero)))
+end_cases (Some image) w (verdicts.BadAuth k) e ends = inl (ends, λ zero. absurd (omega (arith, zero)))
+end_cases (Some image) w (verdicts.Double i j) e ends = inl (ends, λ zero. absurd (omega (arith, zero)))
+end_cases (Some image) w verdicts.Uncommitted e ends = inl (ends, λ zero. absurd (omega (arith, zero)))
+end_cases (Some image) w (verdicts.Fork i j) e ends = inl (ends, λ zero. absurd (omega (arith, zero)))
+end_cases (Some image) w (verdicts.Replay n) e ends = inl (ends, λ zero. absurd (omega (arith, zero)))
+end_cases (Some image) w (verdicts.Uncovered n) e ends = inl (ends, λ zero. absurd (omega (arith, zero)))
+end_cases (Some image) w (verdicts.Unmatched k) e ends = inl (ends, λ zero. absurd (omega (arith, zero)))
+end_cases (Some image) w (verdicts.Accepted first last cover) e ends =
+    elim ends [ inl fits ↦ inl (fits.0, λ zero. fits.1) | inr other ↦ inr (other.0, other.1) ]
+
+verdict_zero : (key s a : List ℕ) (image : Option (List ℕ)) (v : Verdict) (e : End) → IsJudged key s a v → VerdictEnd image (whole_segment_of s) v e → status_of e ≡ 0 → IsAcceptedBytes key s a × BeginsAsGiven image (whole_segment_of s)
+verdict_zero key s a image v e judged ends zero =
+    elim (end_cases image (whole_segment_of s) v e ends) [
+      | inl own ↦
+          let status : status_of e ≡ status_of_verdict v = ap status_of own.0 in
+          let row = zero_verdict v (sym status ∙ zero) in
+          (judged.1.only row.0 row.1 row.2 row.3, own.1 (sym status ∙ zero))
+      | inr other ↦ let two : status_of e ≡ 2 = ap status_of other.0 in absurd (omega (arith, two, zero))
+    ]
+
+verdict_one : (image : Option (List ℕ)) (w : Option (SegmentData × HeadData)) (v : Verdict) (e : End) → VerdictEnd image w v e → status_of e ≡ 1 → has_evidence v ≡ true
+verdict_one image w v e ends one =
+    elim (end_cases image w v e ends) [
+      | inl own ↦ let status : status_of e ≡ status_of_verdict v = ap status_of own.0 in one_verdict v (sym status ∙ one)
+      | inr other ↦ let two : status_of e ≡ 2 = ap status_of other.0 in absurd (omega (arith, two, one))
+    ]
+
+accepted_zero : (key s a : List ℕ) (v : Verdict) → IsJudged key s a v → IsAcceptedBytes key s a → status_of_verdict v ≡ 0
+accepted_zero key s a v judged accepted =
+    let row : v ≡ accepted_as accepted.0 = judged.1.every accepted.0 accepted.1 accepted.2 in
+    ap status_of_verdict row
+
+verdict_accepts : (key s a : List ℕ) (image : Option (List ℕ)) (v : Verdict) (e : End) → IsJudged key s a v → VerdictEnd image (whole_segment_of s) v e → IsAcceptedBytes key s a → BeginsAsGiven image (whole_segment_of s) → status_of e ≡ 0
+verdict_accepts key s a image v e judged ends accepted begins =
+    elim (end_cases image (whole_segment_of s) v e ends) [
+      | inl own ↦ ap status_of own.0 ∙ accepted_zero key s a v judged accepted
+      | inr other ↦ absurd (other.1 begins)
+    ]
+
+verdict_refuses : (key s a : List ℕ) (image : Option (List ℕ)) (v : Verdict) (e : End) → IsJudged key s a v → VerdictEnd image (whole_segment_of s) v e → IsAcceptedBytes key s a → (BeginsAsGiven image (whole_segment_of s) → ⊥) → e ≡ end.RefusedImage
+verdict_refuses key s a image v e judged ends accepted not =
+    elim (end_cases image (whole_segment_of s) v e ends) [
+      | inl own ↦ absurd (not (own.1 (accepted_zero key s a v judged accepted)))
+      | inr other ↦ other.0
+    ]
+
+-- ---- segment and image
 
 told_found : (told : Option (Option (List ℕ))) (s : List ℕ) (found : Option (List ℕ)) → Tells told (Some s) → Finds told found → found ≡ Some s
 told_found told s found tells finds =
     let same : Some s ≡ found = subst (λ (t : Option (Option (List ℕ))). Finds t found) tells finds in
     sym same
 
-plain_accepts_at : (s : List ℕ) (found : Option (List ℕ)) (e : End) → found ≡ Some s → PlainEnd found e → IsAcceptedBytes no_key s [] → status_of e ≡ 0
-plain_accepts_at s found e is ends accepted =
-    let there : PlainEnd (Some s) e = subst (λ (o : Option (List ℕ)). PlainEnd o e) is ends in
-    let row : there.0 ≡ accepted_as accepted.0 = there.1.1.every accepted.0 accepted.1 accepted.2 in
-    ap status_of there.2 ∙ ap status_of_verdict row
+-- the image that is found has no fault, or none is named
+abbrev IsImageThere : Option (Option (List ℕ)) → Type 0
+IsImageThere None = Unit {0}
+IsImageThere (Some None) = ⊥
+IsImageThere (Some (Some image)) = image_file image ≡ true
+
+only_true : (b : Bool) (r : Option FileOption) (option : FileOption) → (if b then r else Some option) ≡ None → b ≡ true
+only_true true r option is = refl
+only_true false r option is = cc
+
+subject_there : (s : Option (List ℕ)) (image : Option (Option (List ℕ))) → refused_first s image ≡ None → (s ≡ Some (bytes_of s)) × IsImageThere image
+subject_there None image is = let none : ◌≡◌ {A = Option FileOption} (Some Segment) None = is in cc
+subject_there (Some s) None is = (refl, tt)
+subject_there (Some s) (Some None) is = let none : ◌≡◌ {A = Option FileOption} (Some Image) None = is in cc
+subject_there (Some s) (Some (Some image)) is = (refl, only_true (image_file image) None Image is)
+
+image_given : (image : Option (List ℕ)) (old : FileMap) (found : Option (Option (List ℕ))) → FindsNamed image old found → IsImageThere found → IsImageGiven Finds image old (option_map bytes_of found)
+image_given None old found finds there = ap (option_map bytes_of) finds
+image_given (Some name) old None finds there = absurd finds
+image_given (Some name) old (Some None) finds there = absurd there
+image_given (Some name) old (Some (Some image)) finds there = (finds, there)
+
+-- the image that is given, as it is found
+abbrev found_as : Option (List ℕ) → Option (Option (List ℕ))
+found_as given = option_map (λ (bytes : List ℕ). Some bytes) given
+
+told_image : (image : Option (List ℕ)) (old : FileMap) (found : Option (Option (List ℕ))) (given : Option (List ℕ)) → FindsNamed image old found → IsImageGiven Tells image old given → (found ≡ found_as given) × IsImageThere (found_as given)
+told_image None old found given finds none = (finds ∙ sym (ap found_as none), subst (λ (o : Option (List ℕ)). IsImageThere (found_as o)) (sym none) tt)
+told_image (Some name) old found None finds given = absurd given
+told_image (Some name) old None (Some bytes) finds given = absurd finds
+told_image (Some name) old (Some found) (Some bytes) finds given =
+    (ap (λ (o : Option (List ℕ)). Some o) (told_found (old name) bytes found given.0 finds), given.1)
+
+same_image : (given : Option (List ℕ)) → option_map bytes_of (found_as given) ≡ given
+same_image None = refl
+same_image (Some bytes) = refl
+
+not_refused : (s : List ℕ) (given : Option (List ℕ)) → IsImageThere (found_as given) → refused_first (Some s) (found_as given) ≡ None
+not_refused s None there = refl
+not_refused s (Some bytes) there = rw there refl
+
+-- what is told of segment and image
+record IsToldSubject (f : FoundSubject) (s : List ℕ) (given : Option (List ℕ)) : Type 0 where
+  segment : bytes_of f.segment ≡ s
+  image : image_of f ≡ given
+  none : refused_subject f ≡ None
+
+told_subject : (segment : List ℕ) (image : Option (List ℕ)) (old : FileMap) (f : FoundSubject) (s : List ℕ) (given : Option (List ℕ)) → IsSubjectFound segment image old f → Tells (old segment) (Some s) → IsImageGiven Tells image old given → IsToldSubject f s given
+told_subject segment image old f s given found told beside =
+    let first : f.segment ≡ Some s = told_found (old segment) s f.segment told found.0 in
+    let second = told_image image old f.image given found.1 beside in
+    record {
+      segment = ap bytes_of first;
+      image = ap (option_map bytes_of) second.0 ∙ same_image given;
+      none = ap (λ (o : Option (List ℕ)). refused_first o f.image) first ∙ ap (refused_first (Some s)) second.0 ∙ not_refused s given second.1;
+    }
+
+-- ---- an audit without authenticators
+
+plain_judged : (f : FoundSubject) (r : Option FileOption) (e : End) → refused_subject f ≡ r → PlainEnd f r e → status_of e ≢ 3 → PlainJudged (bytes_of f.segment) (image_of f) e × (refused_subject f ≡ None)
+plain_judged f None e is ends not3 = (ends, is)
+plain_judged f (Some option) e is ends not3 = absurd (not3 (ap status_of ends))
+
+abbrev IsAcceptedGiven : Given → Type 0
+IsAcceptedGiven g = IsAcceptedBytes g.key g.segment g.auths × BeginsAsGiven g.image (whole_segment_of g.segment)
+
+plain_zero : (segment : List ℕ) (image : Option (List ℕ)) (old : FileMap) (e : End) → PlainEnds segment image old e → status_of e ≡ 0 → (g : Given) × AreGiven Finds segment image None old g × IsAcceptedGiven g
+plain_zero segment image old e ends zero =
+    let f = ends.0 in
+    let at = plain_judged f (refused_subject f) e refl ends.2 (λ three. omega (arith, three, zero)) in
+    let there = subject_there f.segment f.image at.1 in (
+      record { segment = bytes_of f.segment; image = image_of f; key = no_key; auths = [] },
+      (subst (λ (o : Option (List ℕ)). Finds (old segment) o) there.0 ends.1.0, image_given image old f.image ends.1.1 there.1, refl, refl),
+      verdict_zero no_key (bytes_of f.segment) [] (image_of f) at.0.0 e at.0.1 at.0.2 zero,
+    )
+
+plain_one : (segment : List ℕ) (image : Option (List ℕ)) (old : FileMap) (e : End) → PlainEnds segment image old e → status_of e ≡ 1 → ⊥
+plain_one segment image old e ends one =
+    let f = ends.0 in
+    let at = plain_judged f (refused_subject f) e refl ends.2 (λ three. omega (arith, three, one)) in
+    let s = bytes_of f.segment in
+    let v = at.0.0 in
+    let some : has_evidence v ≡ true = verdict_one (image_of f) (whole_segment_of s) v e at.0.2 one in
+    let lone : has_evidence v ≡ false = alone_on s (judged_of s []) v refl at.0.1.0 in
+    cc
+
+-- the verdict on what is told
+plain_told : (segment : List ℕ) (image : Option (List ℕ)) (old : FileMap) (e : End) (g : Given) → AreGiven Tells segment image None old g → PlainEnds segment image old e → (v : Verdict) × IsJudged g.key g.segment g.auths v × VerdictEnd g.image (whole_segment_of g.segment) v e
+plain_told segment image old e g given ends =
+    let f = ends.0 in
+    let told = told_subject segment image old f g.segment g.image ends.1 given.0 given.1 in
+    let judged : PlainJudged (bytes_of f.segment) (image_of f) e = subst (λ (o : Option FileOption). PlainEnd f o e) told.none ends.2 in
+    let first : PlainJudged g.segment (image_of f) e = subst (λ (s : List ℕ). PlainJudged s (image_of f) e) told.segment judged in
+    let both : PlainJudged g.segment g.image e = subst (λ (o : Option (List ℕ)). PlainJudged g.segment o e) told.image first in
+    let keyed : IsJudged g.key g.segment [] both.0 = subst (λ (k : List ℕ). IsJudged k g.segment [] both.0) (sym given.2) both.1 in
+    (both.0, subst (λ (a : List ℕ). IsJudged g.key g.segment a both.0) (sym given.3) keyed, both.2)
 
 -- ---- an audit with a key
 
-signed_judged : (f : Found) (r : Option FileOption) (old new : Option (Option (List ℕ))) (e : End) → refused_input f.segment f.key f.auths ≡ r → SignedEnd f r old new e → status_of e ≢ 3 → JudgedEnd (bytes_of f.key) (bytes_of f.segment) (bytes_of f.auths) old new e × (refused_input f.segment f.key f.auths ≡ None)
+signed_judged : (f : Found) (r : Option FileOption) (old new : Option (Option (List ℕ))) (e : End) → refused_input f ≡ r → SignedEnd f r old new e → status_of e ≢ 3 → JudgedEnd (bytes_of f.key) (bytes_of f.subject.segment) (bytes_of f.auths) (image_of f.subject) old new e × (refused_input f ≡ None)
 signed_judged f None old new e is ends not3 = (ends, is)
 signed_judged f (Some option) old new e is ends not3 = absurd (not3 (ap status_of ends.0))
-
-only_true : (b : Bool) (r : Option FileOption) → (if b then r else Some Key) ≡ None → b ≡ true
-only_true true r is = refl
-only_true false r is = cc
 
 never_none : (b : Bool) → (if b then Some Auths else Some Key) ≡ None → ⊥
 never_none true is = let none : ◌≡◌ {A = Option FileOption} (Some Auths) None = is in cc
 never_none false is = let none : ◌≡◌ {A = Option FileOption} (Some Key) None = is in cc
 
-abbrev AreThere : Option (List ℕ) → Option (List ℕ) → Option (List ℕ) → Type 0
-AreThere s k a = (s ≡ Some (bytes_of s)) × (k ≡ Some (bytes_of k)) × (public_file (bytes_of k) ≡ true) × (a ≡ Some (bytes_of a))
+both_none : (first second : Option FileOption) → or_else first second ≡ None → (first ≡ None) × (second ≡ None)
+both_none None second is = (refl, is)
+both_none (Some option) second is = let none : ◌≡◌ {A = Option FileOption} (Some option) None = is in cc
 
-are_there : (s k a : Option (List ℕ)) → refused_input s k a ≡ None → AreThere s k a
-are_there None k a is = let none : ◌≡◌ {A = Option FileOption} (Some Segment) None = is in cc
-are_there (Some s) None a is = let none : ◌≡◌ {A = Option FileOption} (Some Key) None = is in cc
-are_there (Some s) (Some k) None is = absurd (never_none (public_file k) is)
-are_there (Some s) (Some k) (Some a) is = (refl, refl, only_true (public_file k) None is, refl)
+abbrev AreThere : Option (List ℕ) → Option (List ℕ) → Type 0
+AreThere k a = (k ≡ Some (bytes_of k)) × (public_file (bytes_of k) ≡ true) × (a ≡ Some (bytes_of a))
 
-are_given : (segment : List ℕ) (names : SignedData) (old : FileMap) (f : Found) → AreFound segment names old f → AreThere f.segment f.key f.auths → AreGiven Finds segment (Some names) old (bytes_of f.key) (bytes_of f.segment) (bytes_of f.auths)
-are_given segment names old f found there = (
-  subst (λ (o : Option (List ℕ)). Finds (old segment) o) there.0 found.0,
-  subst (λ (o : Option (List ℕ)). Finds (old names.key) o) there.1 found.1,
-  there.2,
-  subst (λ (o : Option (List ℕ)). Finds (old names.auths) o) there.3 found.2,
-)
+are_there : (k a : Option (List ℕ)) → refused_signed k a ≡ None → AreThere k a
+are_there None a is = let none : ◌≡◌ {A = Option FileOption} (Some Key) None = is in cc
+are_there (Some k) None is = absurd (never_none (public_file k) is)
+are_there (Some k) (Some a) is = (refl, only_true (public_file k) None Key is, refl)
 
-signed_zero : (segment : List ℕ) (names : SignedData) (old new : FileMap) (e : End) → SignedEnds segment names old new e → status_of e ≡ 0 → (key : List ℕ) × (s : List ℕ) × (a : List ℕ) × AreGiven Finds segment (Some names) old key s a × IsAcceptedBytes key s a
-signed_zero segment names old new e ends zero =
+abbrev given_of : Found → Given
+given_of f = record { segment = bytes_of f.subject.segment; image = image_of f.subject; key = bytes_of f.key; auths = bytes_of f.auths }
+
+are_given : (segment : List ℕ) (image : Option (List ℕ)) (names : SignedData) (old : FileMap) (f : Found) → AreFound segment image names old f → refused_input f ≡ None → AreGiven Finds segment image (Some names) old (given_of f)
+are_given segment image names old f found is =
+    let none = both_none (refused_subject f.subject) (refused_signed f.key f.auths) is in
+    let subject = subject_there f.subject.segment f.subject.image none.0 in
+    let there = are_there f.key f.auths none.1 in (
+      subst (λ (o : Option (List ℕ)). Finds (old segment) o) subject.0 found.0.0,
+      image_given image old f.subject.image found.0.1 subject.1,
+      subst (λ (o : Option (List ℕ)). Finds (old names.key) o) there.0 found.1,
+      there.1,
+      subst (λ (o : Option (List ℕ)). Finds (old names.auths) o) there.2 found.2,
+    )
+
+signed_zero : (segment : List ℕ) (image : Option (List ℕ)) (names : SignedData) (old new : FileMap) (e : End) → SignedEnds segment image names old new e → status_of e ≡ 0 → (g : Given) × AreGiven Finds segment image (Some names) old g × IsAcceptedGiven g
+signed_zero segment image names old new e ends zero =
     let f = ends.0 in
-    let at = signed_judged f (refused_input f.segment f.key f.auths) (old names.evidence) (new names.evidence) e refl ends.2 (λ three. omega (arith, three, zero)) in
-    let judged = at.0 in
-    let status : status_of e ≡ status_of_verdict judged.0 = ap status_of judged.2 in
-    let row = zero_verdict judged.0 (sym status ∙ zero) in
-    (bytes_of f.key, bytes_of f.segment, bytes_of f.auths, are_given segment names old f ends.1 (are_there f.segment f.key f.auths at.1), judged.1.1.only row.0 row.1 row.2 row.3)
+    let at = signed_judged f (refused_input f) (old names.evidence) (new names.evidence) e refl ends.2 (λ three. omega (arith, three, zero)) in
+    (given_of f, are_given segment image names old f ends.1 at.1, verdict_zero (bytes_of f.key) (bytes_of f.subject.segment) (bytes_of f.auths) (image_of f.subject) at.0.0 e at.0.1 at.0.2 zero)
 
-signed_accepts : (segment : List ℕ) (names : SignedData) (old new : FileMap) (e : End) (key s a : List ℕ) → AreGiven Tells segment (Some names) old key s a → SignedEnds segment names old new e → IsAcceptedBytes key s a → status_of e ≡ 0
-signed_accepts segment names old new e key s a given ends accepted =
+-- the verdict on what is told
+signed_told : (segment : List ℕ) (image : Option (List ℕ)) (names : SignedData) (old new : FileMap) (e : End) (g : Given) → AreGiven Tells segment image (Some names) old g → SignedEnds segment image names old new e → (v : Verdict) × IsJudged g.key g.segment g.auths v × VerdictEnd g.image (whole_segment_of g.segment) v e
+signed_told segment image names old new e g given ends =
     let f = ends.0 in
     let found = ends.1 in
-    let seg : f.segment ≡ Some s = told_found (old segment) s f.segment given.0 found.0 in
-    let named : f.key ≡ Some key = told_found (old names.key) key f.key given.1 found.1 in
-    let list : f.auths ≡ Some a = told_found (old names.auths) a f.auths given.3 found.2 in
-    let good : public_file key ≡ true = given.2 in
-    let none : refused_input f.segment f.key f.auths ≡ None = rw (seg, named, list, good) refl in
-    let judged : JudgedEnd (bytes_of f.key) (bytes_of f.segment) (bytes_of f.auths) (old names.evidence) (new names.evidence) e = subst (λ (o : Option FileOption). SignedEnd f o (old names.evidence) (new names.evidence) e) none ends.2 in
-    let by : IsJudged key s a judged.0 = subst (λ (o : Option (List ℕ)). IsJudged key s (bytes_of o) judged.0) list (subst (λ (o : Option (List ℕ)). IsJudged key (bytes_of o) (bytes_of f.auths) judged.0) seg (subst (λ (o : Option (List ℕ)). IsJudged (bytes_of o) (bytes_of f.segment) (bytes_of f.auths) judged.0) named judged.1)) in
-    let row : judged.0 ≡ accepted_as accepted.0 = by.1.every accepted.0 accepted.1 accepted.2 in
-    ap status_of judged.2 ∙ ap status_of_verdict row
+    let told = told_subject segment image old f.subject g.segment g.image found.0 given.0 given.1 in
+    let named : f.key ≡ Some g.key = told_found (old names.key) g.key f.key given.2 found.1 in
+    let list : f.auths ≡ Some g.auths = told_found (old names.auths) g.auths f.auths given.4 found.2 in
+    let good : public_file g.key ≡ true = given.3 in
+    let behind : refused_signed f.key f.auths ≡ None = rw (named, list, good) refl in
+    let none : refused_input f ≡ None = ap (λ (o : Option FileOption). or_else o (refused_signed f.key f.auths)) told.none ∙ behind in
+    let judged : JudgedEnd (bytes_of f.key) (bytes_of f.subject.segment) (bytes_of f.auths) (image_of f.subject) (old names.evidence) (new names.evidence) e = subst (λ (o : Option FileOption). SignedEnd f o (old names.evidence) (new names.evidence) e) none ends.2 in
+    let v = judged.0 in
+    let keyed : IsJudged g.key (bytes_of f.subject.segment) (bytes_of f.auths) v = subst (λ (o : Option (List ℕ)). IsJudged (bytes_of o) (bytes_of f.subject.segment) (bytes_of f.auths) v) named judged.1 in
+    let first : IsJudged g.key g.segment (bytes_of f.auths) v = subst (λ (s : List ℕ). IsJudged g.key s (bytes_of f.auths) v) told.segment keyed in
+    let all : IsJudged g.key g.segment g.auths v = subst (λ (o : Option (List ℕ)). IsJudged g.key g.segment (bytes_of o) v) list first in
+    let whole : VerdictEnd (image_of f.subject) (whole_segment_of g.segment) v e = subst (λ (s : List ℕ). VerdictEnd (image_of f.subject) (whole_segment_of s) v e) told.segment judged.2 in
+    (v, all, subst (λ (o : Option (List ℕ)). VerdictEnd o (whole_segment_of g.segment) v e) told.image whole)
 
 left_evidence : (key s a : List ℕ) (v : Verdict) (o : Option EvidData) (old new : Option (Option (List ℕ))) → IsVerdict key s a v → has_evidence v ≡ true → evidence_for key (judged_of s a) v ≡ o → LeavesEvidence key v o old new → (e : EvidData) × IsShown key s a v e old new
 left_evidence key s a v None old new judged some is left = let none : has_evidence v ≡ false = left.0 in cc
 left_evidence key s a v (Some e) old new judged some is left =
     (e, record { verdict = judged; fault = some; evidence = is; written = left.1; stands = left.2 })
 
-signed_one : (segment : List ℕ) (names : SignedData) (old new : FileMap) (e : End) → SignedEnds segment names old new e → status_of e ≡ 1 → EvidenceShown segment (Some names) old new
-signed_one segment names old new e ends one =
+signed_one : (segment : List ℕ) (image : Option (List ℕ)) (names : SignedData) (old new : FileMap) (e : End) → SignedEnds segment image names old new e → status_of e ≡ 1 → EvidenceShown segment image (Some names) old new
+signed_one segment image names old new e ends one =
     let f = ends.0 in
-    let at = signed_judged f (refused_input f.segment f.key f.auths) (old names.evidence) (new names.evidence) e refl ends.2 (λ three. omega (arith, three, one)) in
+    let at = signed_judged f (refused_input f) (old names.evidence) (new names.evidence) e refl ends.2 (λ three. omega (arith, three, one)) in
     let judged = at.0 in
-    let status : status_of e ≡ status_of_verdict judged.0 = ap status_of judged.2 in
-    let shown = left_evidence (bytes_of f.key) (bytes_of f.segment) (bytes_of f.auths) judged.0 (evidence_for (bytes_of f.key) (judged_of (bytes_of f.segment) (bytes_of f.auths)) judged.0) (old names.evidence) (new names.evidence) judged.1.0 (one_verdict judged.0 (sym status ∙ one)) refl judged.3 in
-    (bytes_of f.key, bytes_of f.segment, bytes_of f.auths, judged.0, shown.0, are_given segment names old f ends.1 (are_there f.segment f.key f.auths at.1), shown.1)
+    let g = given_of f in
+    let shown = left_evidence g.key g.segment g.auths judged.0 (evidence_for g.key (judged_of g.segment g.auths) judged.0) (old names.evidence) (new names.evidence) judged.1.0 (verdict_one g.image (whole_segment_of g.segment) judged.0 e judged.2 one) refl judged.3 in
+    (g, judged.0, shown.0, are_given segment image names old f ends.1 at.1, shown.1)
 
 -- ---- both
 
-audit_zero : (segment : List ℕ) (signed : Option SignedData) (old new : FileMap) (e : End) → AuditEnds segment None signed old new e → status_of e ≡ 0 → (key : List ℕ) × (s : List ℕ) × (a : List ℕ) × AreGiven Finds segment signed old key s a × IsAcceptedBytes key s a
-audit_zero segment None old new e ends zero =
-    let at = plain_zero_at (old segment) ends.0 e ends.1 ends.2 zero in
-    (no_key, at.0, [], (at.1, refl, refl), at.2)
-audit_zero segment (Some names) old new e ends zero = signed_zero segment names old new e ends zero
+audit_zero : (segment : List ℕ) (image : Option (List ℕ)) (signed : Option SignedData) (old new : FileMap) (e : End) → AuditEnds segment image signed old new e → status_of e ≡ 0 → (g : Given) × AreGiven Finds segment image signed old g × IsAcceptedGiven g
+audit_zero segment image None old new e ends zero = plain_zero segment image old e ends zero
+audit_zero segment image (Some names) old new e ends zero = signed_zero segment image names old new e ends zero
 
-audit_accepts : (segment : List ℕ) (signed : Option SignedData) (old new : FileMap) (e : End) (key s a : List ℕ) → AreGiven Tells segment signed old key s a → AuditEnds segment None signed old new e → IsAcceptedBytes key s a → status_of e ≡ 0
-audit_accepts segment None old new e key s a given ends accepted =
-    let plain : IsAcceptedBytes no_key s [] = subst (λ (l : List ℕ). IsAcceptedBytes no_key s l) given.2 (subst (λ (k : List ℕ). IsAcceptedBytes k s a) given.1 accepted) in
-    plain_accepts_at s ends.0 e (told_found (old segment) s ends.0 given.0 ends.1) ends.2 plain
-audit_accepts segment (Some names) old new e key s a given ends accepted = signed_accepts segment names old new e key s a given ends accepted
+audit_told : (segment : List ℕ) (image : Option (List ℕ)) (signed : Option SignedData) (old new : FileMap) (e : End) (g : Given) → AreGiven Tells segment image signed old g → AuditEnds segment image signed old new e → (v : Verdict) × IsJudged g.key g.segment g.auths v × VerdictEnd g.image (whole_segment_of g.segment) v e
+audit_told segment image None old new e g given ends = plain_told segment image old e g given ends
+audit_told segment image (Some names) old new e g given ends = signed_told segment image names old new e g given ends
 
-audit_one : (segment : List ℕ) (signed : Option SignedData) (old new : FileMap) (e : End) → AuditEnds segment None signed old new e → status_of e ≡ 1 → EvidenceShown segment signed old new
-audit_one segment None old new e ends one = plain_one_at ends.0 e ends.2 one
-audit_one segment (Some names) old new e ends one = signed_one segment names old new e ends one
+audit_accepts : (segment : List ℕ) (image : Option (List ℕ)) (signed : Option SignedData) (old new : FileMap) (e : End) (g : Given) → AreGiven Tells segment image signed old g → AuditEnds segment image signed old new e → IsAcceptedBytes g.key g.segment g.auths → BeginsAsGiven g.image (whole_segment_of g.segment) → status_of e ≡ 0
+audit_accepts segment image signed old new e g given ends accepted begins =
+    let told = audit_told segment image signed old new e g given ends in
+    verdict_accepts g.key g.segment g.auths g.image told.0 e told.1 told.2 accepted begins
+
+audit_refuses : (segment : List ℕ) (image : Option (List ℕ)) (signed : Option SignedData) (old new : FileMap) (e : End) (g : Given) → AreGiven Tells segment image signed old g → AuditEnds segment image signed old new e → IsAcceptedBytes g.key g.segment g.auths → (BeginsAsGiven g.image (whole_segment_of g.segment) → ⊥) → e ≡ end.RefusedImage
+audit_refuses segment image signed old new e g given ends accepted not =
+    let told = audit_told segment image signed old new e g given ends in
+    verdict_refuses g.key g.segment g.auths g.image told.0 e told.1 told.2 accepted not
+
+audit_one : (segment : List ℕ) (image : Option (List ℕ)) (signed : Option SignedData) (old new : FileMap) (e : End) → AuditEnds segment image signed old new e → status_of e ≡ 1 → EvidenceShown segment image signed old new
+audit_one segment image None old new e ends one = plain_one segment image old e ends one
+audit_one segment image (Some names) old new e ends one = signed_one segment image names old new e ends one
+
+-- the status and the line of a refused image
+refused_so : (e : End) (before after : Option (List ℕ)) (result : ℕ) → e ≡ end.RefusedImage → status_of e ≡ result → IsPrinted e before after → (result ≡ 2) × IsPrinted end.RefusedImage before after
+refused_so e before after result is status printed = (sym status ∙ ap status_of is, subst (λ (x : End). IsPrinted x before after) is printed)
 
 -- what an audit's status says, by its outcome
-pub audit_means : (segment : List ℕ) (signed : Option SignedData) (job : Option JobData) (old new : FileMap) (before now result : ℕ) (o : Outcome) → Some (audit segment None signed) ≡ job → Reaches o job old new before now → (result ≡ status_of_outcome o) ⊎ (result ≡ 4) → AuditMeans segment signed old new result
-audit_means segment signed job old new before now result o is reaches status =
-    let by : Reaches o (Some (audit segment None signed)) old new before now = subst (λ (j : Option JobData). Reaches o j old new before now) (sym is) reaches in
+pub audit_means : (segment : List ℕ) (image : Option (List ℕ)) (signed : Option SignedData) (job : Option JobData) (old new : FileMap) (f g : ℕ) (before after : Option (List ℕ)) (result : ℕ) (o : Outcome) → Some (audit segment image signed) ≡ job → Reaches o job old new f g → IsSpoken o before after result → AuditMeans segment image signed old new before after result
+audit_means segment image signed job old new f g before after result o is reaches status =
+    let own : Option JobData = Some (audit segment image signed) in
+    let by : Reaches o own old new f g = subst (λ (j : Option JobData). Reaches o j old new f g) (sym is) reaches in
     record {
-      accepted = λ zero. let at = ended (Some (audit segment None signed)) old new before now result 0 o by status zero (λ four. omega (arith, four)) (λ five. omega (arith, five)) in audit_zero segment signed old new at.0 at.1 at.2;
-      accepts = λ key s a given accepted not4 not5. let at = ended (Some (audit segment None signed)) old new before now result result o by status refl not4 not5 in sym at.2 ∙ audit_accepts segment signed old new at.0 key s a given at.1 accepted;
-      fault = λ one. let at = ended (Some (audit segment None signed)) old new before now result 1 o by status one (λ four. omega (arith, four)) (λ five. omega (arith, five)) in audit_one segment signed old new at.0 at.1 at.2;
+      accepted = λ zero. let at = ended own old new f g before after result 0 o by status zero (λ four. omega (arith, four)) (λ five. omega (arith, five)) in let z = audit_zero segment image signed old new at.0 at.1 at.2 in (z.0, z.1, z.2.0, z.2.1);
+      accepts = λ x given accepted begins not4 not5. let at = ended own old new f g before after result result o by status refl not4 not5 in sym at.2 ∙ audit_accepts segment image signed old new at.0 x given at.1 accepted begins;
+      refuses = λ x given accepted not not4 not5. let at = ended own old new f g before after result result o by status refl not4 not5 in refused_so at.0 before after result (audit_refuses segment image signed old new at.0 x given at.1 accepted not) at.2 at.3;
+      fault = λ one. let at = ended own old new f g before after result 1 o by status one (λ four. omega (arith, four)) (λ five. omega (arith, five)) in audit_one segment image signed old new at.0 at.1 at.2;
     }
 
 -- ---- a check
@@ -237,7 +389,7 @@ never_check false is = let none : ◌≡◌ {A = Option FileOption} (Some Key) N
 both_there : (k b : Option (List ℕ)) → refused_check k b ≡ None → (k ≡ Some (bytes_of k)) × (public_file (bytes_of k) ≡ true) × (b ≡ Some (bytes_of b))
 both_there None b is = let none : ◌≡◌ {A = Option FileOption} (Some Key) None = is in cc
 both_there (Some k) None is = absurd (never_check (public_file k) is)
-both_there (Some k) (Some b) is = (refl, only_true (public_file k) None is, refl)
+both_there (Some k) (Some b) is = (refl, only_true (public_file k) None Key is, refl)
 
 stands_zero : (key bytes : List ℕ) (e : End) → StandsOrNot key bytes e → status_of e ≡ 0 → Stands key bytes
 stands_zero key bytes e told zero =
@@ -268,10 +420,11 @@ check_accepts key evidence old e k bytes named told good stands ends =
     zero_stands k bytes e by stands
 
 -- what a check's status says, by its outcome
-pub check_means : (key evidence : List ℕ) (job : Option JobData) (old new : FileMap) (before now result : ℕ) (o : Outcome) → Some (check key evidence) ≡ job → Reaches o job old new before now → (result ≡ status_of_outcome o) ⊎ (result ≡ 4) → CheckMeans key evidence old result
-check_means key evidence job old new before now result o is reaches status =
-    let by : Reaches o (Some (check key evidence)) old new before now = subst (λ (j : Option JobData). Reaches o j old new before now) (sym is) reaches in
+pub check_means : (key evidence : List ℕ) (job : Option JobData) (old new : FileMap) (f g : ℕ) (before after : Option (List ℕ)) (result : ℕ) (o : Outcome) → Some (check key evidence) ≡ job → Reaches o job old new f g → IsSpoken o before after result → CheckMeans key evidence old result
+check_means key evidence job old new f g before after result o is reaches status =
+    let own : Option JobData = Some (check key evidence) in
+    let by : Reaches o own old new f g = subst (λ (j : Option JobData). Reaches o j old new f g) (sym is) reaches in
     record {
-      stands = λ zero. let at = ended (Some (check key evidence)) old new before now result 0 o by status zero (λ four. omega (arith, four)) (λ five. omega (arith, five)) in check_zero key evidence old at.0 at.1 at.2;
-      accepts = λ k bytes named told good stands not4 not5. let at = ended (Some (check key evidence)) old new before now result result o by status refl not4 not5 in sym at.2 ∙ check_accepts key evidence old at.0 k bytes named told good stands at.1;
+      stands = λ zero. let at = ended own old new f g before after result 0 o by status zero (λ four. omega (arith, four)) (λ five. omega (arith, five)) in check_zero key evidence old at.0 at.1 at.2;
+      accepts = λ k bytes named told good stands not4 not5. let at = ended own old new f g before after result result o by status refl not4 not5 in sym at.2 ∙ check_accepts key evidence old at.0 k bytes named told good stands at.1;
     }

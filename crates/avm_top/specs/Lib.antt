@@ -4,7 +4,9 @@ pub mod Ends
 pub mod Said
 pub mod Printing
 pub mod Keygen
-pub mod KeyFile
+pub mod Tested
+pub mod ImageFile
+pub mod Subject
 pub mod Audit
 pub mod Inputs
 pub mod Check

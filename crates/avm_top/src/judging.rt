@@ -1,10 +1,14 @@
-// The verdict on bytes as they were read.
-ghost use Rattle.std.specs.Prelude.{◌≡◌, ◌≢◌, IfOk};
-ghost use Rattle.avm_top.specs.Audit.{IsJudged};
+// The verdict on bytes as they were read, and how it ends.
+ghost use Rattle.std.specs.Prelude.{◌≡◌, ◌≢◌, Some, IfOk};
+ghost use Rattle.avm_model.specs.Segment.{whole_segment_of};
+ghost use Rattle.avm_top.specs.Audit.{IsJudged, ImageEnd, VerdictEnd};
 ghost use Rattle.avm_top.specs.Check.{StandsOrNot};
+ghost use Rattle.avm_top.specs.Subject.{image_bytes};
 
+use crate::inputs::Subject;
 use crate::{End, Fault};
 use avm_model::Verdict;
+use boot_image::begins_as;
 use std::alloc::Global;
 
 // The verdict on a segment and authenticators under a key.
@@ -18,6 +22,33 @@ pub fn verdict_on(
     ensures no_fault { result ≢ Err Fault.Files }
 {
     Ok(auditor::audit(alloc, key, segment, auths)?)
+}
+
+// The end of a verdict that accepts the segment, beside an image.
+fn image_end(alloc: Global, segment: &[u8], image: &[u8], verdict: Verdict) -> Result<End, Fault>
+    ensures ends { IfOk result (ImageEnd image.now (whole_segment_of segment.now) verdict) }
+    ensures no_fault { result ≢ Err Fault.Files }
+{
+    let begins = begins_as(alloc, segment, image)?;
+    if begins {
+        Ok(End::Judged(verdict))
+    } else {
+        Ok(End::RefusedImage)
+    }
+}
+
+// The end of a verdict. The image is compared only where the segment is accepted.
+pub fn verdict_end(alloc: Global, subject: &Subject, verdict: Verdict) -> Result<End, Fault>
+    ensures ends { IfOk result (VerdictEnd (image_bytes subject.now) (whole_segment_of subject.now.segment.items) verdict) }
+    ensures no_fault { result ≢ Err Fault.Files }
+{
+    let Some(image) = &subject.image else {
+        return Ok(End::Judged(verdict));
+    };
+    match verdict {
+        Verdict::Accepted { .. } => image_end(alloc, &subject.segment, image, verdict),
+        _ => Ok(End::Judged(verdict)),
+    }
 }
 
 // How a check of bytes ends.

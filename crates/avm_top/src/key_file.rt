@@ -1,7 +1,8 @@
 // Reads a public key's file.
 ghost use Rattle.std.specs.Prelude.{◌≡◌, ◌≢◌, ℕ, List, IfOk, IsErrOf, option_map, length};
 ghost use Rattle.avm_outside.specs.Outside.{Rises};
-ghost use Rattle.avm_top.specs.KeyFile.{IsKeyFile, IsKeyRead};
+ghost use Rattle.avm_model.specs.Keys.{public_file};
+ghost use Rattle.avm_top.specs.Tested.{IsTested, IsTestedRead};
 
 use crate::Fault;
 use crate::reading::read_file;
@@ -24,7 +25,7 @@ fn array_of(bytes: &[u8]) -> [u8; 56]
 // The key that the bytes are.
 #[tactic(auto, unfolding(avm_model::specs::Keys::public_file))]
 fn public_key(bytes: &[u8]) -> Option<[u8; 56]>
-    ensures { IsKeyFile (Some bytes.now) (option_map (λ k. k) result) }
+    ensures { IsTested public_file (Some bytes.now) (option_map (λ k. k) result) }
 {
     if !is_public_key(bytes) {
         return None;
@@ -38,7 +39,7 @@ pub fn read_public_key<F: Files>(
     files: &mut F,
     name: &str,
 ) -> Result<Option<[u8; 56]>, Fault>
-    ensures key { IfOk result (λ k. IsKeyRead (F.file files.old name.now) (option_map (λ k. k) k)) }
+    ensures key { IfOk result (λ k. IsTestedRead public_file (F.file files.old name.now) (option_map (λ k. k) k)) }
     ensures same { (n : List ℕ) → F.file files.new n ≡ F.file files.old n }
     ensures fault { IsErrOf result Fault.Files → Rises (F.faults files.old) (F.faults files.new) }
     ensures no_fault { result ≢ Err Fault.Files → F.faults files.new ≡ F.faults files.old }

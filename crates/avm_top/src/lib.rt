@@ -5,6 +5,7 @@ mod audit;
 mod check;
 mod ends;
 mod fault;
+mod image_file;
 mod inputs;
 mod judging;
 mod key_file;

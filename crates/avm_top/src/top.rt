@@ -1,5 +1,5 @@
 // The top call: what the words ask for is done, and one line is printed.
-ghost use Rattle.std.specs.Prelude.{◌≡◌, ◌≢◌, ◌⊎◌, ℕ, List, Option, None, Some, map, IfOk, IsErrOf, string_bytes};
+ghost use Rattle.std.specs.Prelude.{◌≡◌, ◌≢◌, ◌⊎◌, ℕ, List, Option, Some, map, IfOk, IsErrOf, string_bytes};
 ghost use Rattle.avm_model.specs.Job.{SignedData, audit as audit_job, check as check_job, job_of};
 ghost use Rattle.avm_outside.specs.Outside.{Rises};
 ghost use Rattle.avm_top.specs.Ends.{line};
@@ -40,7 +40,7 @@ pub fn avm<F: Files, D: Disk, E: Disk, S: Sink>(
     // no other file is changed
     ensures files { (n : List ℕ) → IsNoneOf (written_by (job_of (map string_bytes words.now))) n → F.file files.new n ≡ F.file files.old n }
     // what 0 and 1 mean
-    ensures audit { (segment : List ℕ) (signed : Option SignedData) → Some (audit_job segment None signed) ≡ job_of (map string_bytes words.now) → AuditMeans segment signed (F.file files.old) (F.file files.new) result }
+    ensures audit { (segment : List ℕ) (image : Option (List ℕ)) (signed : Option SignedData) → Some (audit_job segment image signed) ≡ job_of (map string_bytes words.now) → AuditMeans segment image signed (F.file files.old) (F.file files.new) (S.written out.old) (S.written out.new) result }
     ensures check { (key evidence : List ℕ) → Some (check_job key evidence) ≡ job_of (map string_bytes words.now) → CheckMeans key evidence (F.file files.old) result }
     // no call on the disk or the spare
     ensures disk { disk.new ≡ disk.old }

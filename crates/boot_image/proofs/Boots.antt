@@ -1,9 +1,14 @@
 -- What loading an image into zeros says of the test of its initial state.
-use Rattle.std.proofs.Common.{◌≡◌, ℕ, ◌*◌, ◌/◌, false, List, length, replicate, Option, Some, None, sym, ap, ◌∙◌}
+use Rattle.std.proofs.Common.{◌≡◌, ℕ, ◌*◌, ◌/◌, Bool, true, false, List, length, replicate, Option, Some, None, refl, sym, ap, ◌∙◌}
+use Rattle.std.specs.Str.{bytes_eq}
+use Rattle.std.specs.Cmp.Lexicographic.{bytes_decides}
 use Rattle.std.proofs.lemmas.List.{length-replicate}
+use Rattle.avm_model.specs.Head.{HeadData}
+use Rattle.avm_model.specs.HeadState.{state_of}
 use Rattle.avm_model.specs.Image.{load_fault, loaded, entry_of}
 use Rattle.avm_model.specs.ImageState.{Gives, Refuses, image, image_by, is_booted, is_booted_from, is_image_of}
 use Rattle.avm_model.specs.Machine.{State}
+use Rattle.avm_model.specs.Memory.{RamState}
 use Rattle.avm_model.specs.declared.loading.LoadFault.{LoadFault}
 
 -- the page count of the state
@@ -32,3 +37,21 @@ pub refused_test : (s : State) (file blank : List ℕ) (pages : ℕ) (fault : Lo
 unfolding is_image_of
 refused_test s file blank pages fault holds b f =
     sym (ap (is_booted_from s) (ap (λ n. image n file) holds ∙ image_refuses file pages fault (blank_fault file blank pages (Some fault) b f)))
+
+-- the RAM and the bytes that it is compared with may change their places
+same_eq : (a b : List ℕ) (x y : Bool) → bytes_eq a b ≡ x → bytes_eq b a ≡ y → x ≡ y
+same_eq a b true true p q = refl
+same_eq a b false false p q = refl
+same_eq a b true false p q =
+    let same : a ≡ b = (bytes_decides a b).0 p in
+    sym ((bytes_decides b a).1 (sym same)) ∙ q
+same_eq a b false true p q =
+    let same : b ≡ a = (bytes_decides b a).0 q in
+    sym p ∙ (bytes_decides a b).1 (sym same)
+
+pub swapped : (h : HeadData) (a b : List ℕ) (entry : ℕ) → is_booted (state_of h a) b entry ≡ is_booted (state_of h b) a entry
+swapped h a b entry = rw (same_eq a b (bytes_eq a b) (bytes_eq b a) refl refl) refl
+
+-- the pages of a RAM of zeros
+pub marks : (n k : ℕ) (ram new : RamState) → ram ≡ record { bytes = replicate (4096 * n) 0; dirty = replicate n false } → length new.dirty ≡ length ram.dirty → n ≡ k → k ≡ length new.dirty
+marks n k ram new is same count = sym (same ∙ ap (λ (r : RamState). length r.dirty) is ∙ length-replicate n false ∙ count)

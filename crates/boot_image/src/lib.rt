@@ -1,69 +1,9 @@
-//! Whether a machine is in the state in which it boots from an image.
+//! Whether a segment begins with the state in which a machine boots from an image.
 #![tactic(auto)]
 
-ghost use Rattle.std.specs.Prelude.{◌≡◌, true, IfOk};
-ghost use Rattle.avm_model.specs.ImageState.{IsImageOf, are_unused as are_unused_lem, is_fresh as is_fresh_lem, is_booted as is_booted_lem, is_image_of as is_image_of_lem};
+mod begins;
+mod booted;
+#[cfg(test)]
+mod tests;
 
-use avm_model::{Peer, Status};
-use avm_num::NoMemory;
-use guest_dev::Devices;
-use guest_machine::Machine;
-use rv32_loader::load;
-use rv32_mem::Ram;
-use std::alloc::Global;
-
-/// Whether nothing was sent to the peers and nothing came from them.
-fn are_unused(peers: &[Peer]) -> bool
-    ensures { result ≡ are_unused_lem peers.now }
-{
-    for i in 0..peers.len() {
-        if peers[i].sent != 0 || peers[i].acked != 0 || peers[i].received != 0 {
-            return false;
-        }
-    }
-    true
-}
-
-/// Whether the devices hold nothing.
-fn is_fresh(devices: &Devices) -> bool
-    ensures { result ≡ is_fresh_lem devices.now }
-{
-    let regs = devices.regs();
-    devices.line().is_empty()
-        && devices.is_idle()
-        && !devices.pending()
-        && regs.latch == 0
-        && regs.peer == 0
-        && regs.len == 0
-        && regs.result == 0
-        && devices.window().as_slice() == [0; 1024].as_slice()
-        && are_unused(devices.peers())
-}
-
-/// Whether the machine boots, with this RAM and entry.
-fn is_booted(machine: &Machine, ram: &[u8], entry: u32) -> bool
-    ensures { result ≡ is_booted_lem machine.now.state ram.now entry }
-{
-    let hart = machine.hart();
-    machine.count() == 0
-        && machine.status() == Status::Running
-        && hart.pc == entry
-        && hart.x.as_slice() == [0; 32].as_slice()
-        && is_fresh(machine.devices())
-        && machine.ram().bytes() == ram
-}
-
-/// Whether the machine is in the initial state of an image, under its own id, number of steps between snapshots, page count
-/// and peers. It is in none of an image that is refused.
-#[tactic(auto, unfolding(avm_model::specs::ImageState::is_image_of))]
-pub fn is_image_of(alloc: Global, machine: &Machine, image: &[u8]) -> Result<bool, NoMemory>
-    ensures value { IfOk result (λ is. is ≡ is_image_of_lem machine.now.state image.now) }
-    ensures yes { IfOk result (λ is. is ≡ true → IsImageOf machine.now.state image.now) }
-    ensures only { IfOk result (λ is. IsImageOf machine.now.state image.now → is ≡ true) }
-{
-    let mut ram = Ram::new(alloc, machine.ram().pages())?;
-    match load(&mut ram, image) {
-        Ok(entry) => Ok(is_booted(machine, ram.bytes(), entry)),
-        Err(_) => Ok(false),
-    }
-}
+pub use begins::begins_as;

@@ -1,0 +1,48 @@
+// Whether a machine is in the state in which it boots.
+ghost use Rattle.std.specs.Prelude.{◌≡◌};
+ghost use Rattle.avm_model.specs.ImageState.{are_unused as are_unused_lem, is_fresh as is_fresh_lem, is_booted as is_booted_lem};
+
+use avm_model::{Peer, Status};
+use guest_dev::Devices;
+use guest_machine::Machine;
+
+/// Whether nothing was sent to the peers and nothing came from them.
+fn are_unused(peers: &[Peer]) -> bool
+    ensures { result ≡ are_unused_lem peers.now }
+{
+    for i in 0..peers.len() {
+        if peers[i].sent != 0 || peers[i].acked != 0 || peers[i].received != 0 {
+            return false;
+        }
+    }
+    true
+}
+
+/// Whether the devices hold nothing.
+fn is_fresh(devices: &Devices) -> bool
+    ensures { result ≡ is_fresh_lem devices.now }
+{
+    let regs = devices.regs();
+    devices.line().is_empty()
+        && devices.is_idle()
+        && !devices.pending()
+        && regs.latch == 0
+        && regs.peer == 0
+        && regs.len == 0
+        && regs.result == 0
+        && devices.window().as_slice() == [0; 1024].as_slice()
+        && are_unused(devices.peers())
+}
+
+/// Whether the machine boots, with this RAM and entry.
+pub fn is_booted(machine: &Machine, ram: &[u8], entry: u32) -> bool
+    ensures { result ≡ is_booted_lem machine.now.state ram.now entry }
+{
+    let hart = machine.hart();
+    machine.count() == 0
+        && machine.status() == Status::Running
+        && hart.pc == entry
+        && hart.x.as_slice() == [0; 32].as_slice()
+        && is_fresh(machine.devices())
+        && machine.ram().bytes() == ram
+}

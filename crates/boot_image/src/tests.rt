@@ -1,0 +1,71 @@
+//! A segment of a machine that boots from an image of six instructions, as the formats spell it.
+
+use crate::begins_as;
+use std::alloc::{AllocError, Global};
+
+/// A place, and the bytes that stand there in a segment that is zero elsewhere.
+const USUAL: [(usize, &[u8]); 9] = [
+    // magic, version, number and the head's length
+    (0, &[0x41, 0x56, 0x4d, 0x53, 1]),
+    (12, &[1]),
+    (47, &[4, 168]),
+    // the head's version, number of steps between snapshots, page count and pc
+    (49, &[1, 0, 0, 0, 4, 0, 0, 0, 0, 1]),
+    (184, &[0x80]),
+    // the page
+    (
+        1241,
+        &[0xb7, 2, 0, 0x10, 0x13, 3, 0x80, 4, 0x23, 0xa0, 0x62, 0],
+    ),
+    (
+        1253,
+        &[0x13, 3, 0xa0, 0, 0x23, 0xa0, 0x62, 0, 0x73, 0, 0, 0],
+    ),
+    // BOOT: number, kind and length; its root isn't compared
+    (5344, &[1, 1, 0, 0, 0, 40]),
+    (5389, &[0]),
+];
+
+const IMAGE: [u8; 24] = [
+    0xb7, 2, 0, 0x10, 0x13, 3, 0x80, 4, 0x23, 0xa0, 0x62, 0, 0x13, 3, 0xa0, 0, 0x23, 0xa0, 0x62, 0,
+    0x73, 0, 0, 0,
+];
+
+fn put(bytes: &mut [u8], at: usize, new: &[u8]) {
+    if at <= bytes.len() && new.len() <= bytes.len() - at {
+        bytes[at..at + new.len()].copy_from_slice(new);
+    }
+}
+
+fn segment(alloc: Global, len: usize, changes: &[(usize, &[u8])]) -> Result<Vec<u8>, AllocError> {
+    let mut bytes = vec![in alloc; 0u8; len]?;
+    for (at, new) in USUAL {
+        put(bytes.as_mut_slice(), at, new);
+    }
+    for (at, new) in changes {
+        put(bytes.as_mut_slice(), *at, new);
+    }
+    Ok(bytes)
+}
+
+#[test]
+fn how_a_segment_begins(rt: HostRuntime) -> Result<(), AllocError> {
+    let rows: [(&[(usize, &[u8])], usize, &[u8], bool); 7] = [
+        (&[], 5390, &IMAGE, true),
+        (&[], 5390, &[0x6f, 0, 0, 0], false),
+        (&[], 5390, &[], false),
+        (&[], 5389, &IMAGE, false),
+        // a register, a byte of the page, and SNAP as the first entry
+        (&[(63, &[1])], 5390, &IMAGE, false),
+        (&[(5336, &[1])], 5390, &IMAGE, false),
+        (&[(12, &[2]), (5344, &[2, 2])], 5390, &IMAGE, false),
+    ];
+    for (changes, len, image, want) in rows {
+        let bytes = segment(rt.alloc(), len, changes)?;
+        let Ok(begins) = begins_as(rt.alloc(), &bytes, image) else {
+            return Err(AllocError);
+        };
+        assert_eq!(rt; begins, want, "{len}");
+    }
+    Ok(())
+}
