@@ -1,12 +1,13 @@
-"""Times `audit`: a segment of many steps, and many authenticators. Usage: audit.py PROGRAM FOLDER [STEPS [AUTHS]].
+"""Times `audit`: a segment of many steps, many authenticators, and the longest files.
+Usage: audit.py PROGRAM PEER FOLDER [STEPS [AUTHS]], where PEER is the program lms_peer.
 
-Prints instructions a second of the replay of a segment in 256 pages with a snapshot each 2^20 steps, the time of an audit with
-authenticators (height 10, w 8), and the greatest resident memory of each run."""
+Prints instructions a second of the replay of a segment in 256 pages with a snapshot each 2^20 steps; the time of an audit with
+authenticators (height 10, w 8) beside as many plain calls of `verify`, and their ratio; the time of an audit of a segment of
+nearly 2^26 bytes with nearly 2^24 bytes of authenticators; and the greatest resident memory of each run of the program."""
 import os
 import resource
 import subprocess
 import sys
-import time
 
 sys.path.insert(0, os.path.join(os.path.dirname(os.path.abspath(__file__)), "..", "scripts"))
 import model as m  # noqa: E402
@@ -15,11 +16,33 @@ import model as m  # noqa: E402
 LOOP = "800012b7 00108093 0002a103 002181b3 0032a223 fe0098e3"
 
 
+# Runs a command and prints its greatest resident memory behind what it prints: a child of this large process would inherit its.
+MEASURE = """import resource, subprocess, sys
+subprocess.run(sys.argv[1:])
+print(resource.getrusage(resource.RUSAGE_CHILDREN).ru_maxrss)"""
+
+
 def run(program, words, folder):
-    began = time.time()
-    done = subprocess.run([os.path.abspath(program), *words], cwd=folder, capture_output=True)
-    peak = resource.getrusage(resource.RUSAGE_CHILDREN).ru_maxrss
-    return time.time() - began, done.stdout.decode().strip(), peak / 1024
+    began = spent()
+    command = [sys.executable, "-c", MEASURE, os.path.abspath(program), *words]
+    done = subprocess.run(command, cwd=folder, capture_output=True)
+    line, peak = done.stdout.decode().split("\n")[:2]
+    return spent() - began, line, int(peak) / 1024
+
+
+def spent():
+    used = resource.getrusage(resource.RUSAGE_CHILDREN)
+    return used.ru_utime + used.ru_stime
+
+
+def best(times, command, folder, data=b""):
+    """The least processor time of some runs, in seconds, and what the last one prints."""
+    took = []
+    for _ in range(times):
+        began = spent()
+        done = subprocess.run(command, cwd=folder, input=data, capture_output=True)
+        took.append(spent() - began)
+    return min(took), done.stdout.decode()
 
 
 def put(folder, name, data):
@@ -43,10 +66,55 @@ def fast_frames(state, steps):
     return frames
 
 
+def authenticators(program, peer, folder, many):
+    """As many authenticators of one entry in an audit, beside as many lines for lms_peer; without the time of no authenticator."""
+    small = m.Machine(ram=m.words("0000006f").ljust(4096, b"\0"))
+    log = [(1, m.BOOT, m.u64(0) + small.root())]
+    key = m.Key(6, 4, bytes(range(16)), b"\x33" * 32)
+    h = m.chain_of(bytes(32), log)[1]
+    text = m.signed_text(1, h)
+    sigs = [key.sign(q % 1024, text) for q in range(many)]
+    put(folder, "one.seg", m.put_segment(1, bytes(32), small, log))
+    put(folder, "key", key.public())
+    put(folder, "none", b"")
+    put(folder, "auths", b"".join(m.put_auth(1, h, sig) for sig in sigs))
+    words = [os.path.abspath(program), "audit", "--segment", "one.seg", "--key", "key", "--evidence", "e", "--auths"]
+    bare, _ = best(5, words + ["none"], folder)
+    took, line = best(5, words + ["auths"], folder)
+    lines = "".join("verify %s %s %s\n" % (key.public().hex(), text.hex(), sig.hex()) for sig in sigs).encode()
+    start, _ = best(5, [os.path.abspath(peer)], folder)
+    plain, answers = best(5, [os.path.abspath(peer)], folder, lines)
+    assert answers == "valid\n" * many
+    audit, calls = took - bare, plain - start
+    print("authenticators: %s; %d in %.3f s, %.3f ms each; verify alone %.3f s; ratio %.2f"
+          % (line.strip(), many, audit, 1000 * audit / many, calls, audit / calls))
+
+
+def longest(program, folder):
+    """A segment of CONIN entries of one byte in 4096 pages, of which only the first 1024 can be taken, and authenticators of its last
+    entries: the most that is read, and evidence for a fault."""
+    pages = 4096
+    state = m.Machine(snap=1 << 24, pages=pages, ram=m.words("0000006f").ljust(4096 * pages, b"\0"))
+    frames = [(1, m.BOOT, m.u64(0) + state.root())]
+    room = (1 << 26) - len(m.put_segment(1, bytes(32), state, frames))
+    frames += [(2 + i, m.CONIN, m.u64(0) + b"a") for i in range(room // 22)]
+    hashes = m.chain_of(bytes(32), frames)
+    key = m.Key(5, 4, bytes(range(16)), b"\x33" * 32)
+    numbers = range(len(frames) - 511, len(frames) + 1)
+    signed = [m.put_auth(n, hashes[n], key.sign(n % 32, m.signed_text(n, hashes[n]))) for n in numbers]
+    count = (1 << 24) // len(signed[0])
+    put(folder, "long.seg", m.put_segment(1, bytes(32), state, frames))
+    put(folder, "long.key", key.public())
+    put(folder, "long.auths", b"".join(signed[i % 512] for i in range(count)))
+    words = ["audit", "--segment", "long.seg", "--key", "long.key", "--auths", "long.auths", "--evidence", "e"]
+    took, line, peak = run(program, words, folder)
+    print("longest: %s; %d entries, %d authenticators in %.1f s, %.0f MiB" % (line, len(frames), count, took, peak))
+
+
 def main():
-    program, folder = sys.argv[1], sys.argv[2]
-    steps = int(sys.argv[3]) if len(sys.argv) > 3 else 10_000_000
-    many = int(sys.argv[4]) if len(sys.argv) > 4 else 1000
+    program, peer, folder = sys.argv[1], sys.argv[2], sys.argv[3]
+    steps = int(sys.argv[4]) if len(sys.argv) > 4 else 10_000_000
+    many = int(sys.argv[5]) if len(sys.argv) > 5 else 1000
     os.makedirs(folder, exist_ok=True)
     image = m.words(LOOP)
     state = m.Machine(snap=1 << 20, pages=256, ram=image.ljust(4096 * 256, b"\0"))
@@ -55,15 +123,8 @@ def main():
     took, line, peak = run(program, ["audit", "--segment", "loop.seg"], folder)
     made = int.from_bytes(frames[-1][2][:8], "big")
     print("replay: %s; %d steps in %.2f s, %.1f million a second, %.0f MiB" % (line, made, took, made / took / 1e6, peak))
-    small = m.Machine(ram=m.words("0000006f").ljust(4096, b"\0"))
-    log = [(1, m.BOOT, m.u64(0) + small.root())]
-    key = m.Key(6, 4, bytes(range(16)), b"\x33" * 32)
-    h = m.chain_of(bytes(32), log)[1]
-    put(folder, "one.seg", m.put_segment(1, bytes(32), small, log))
-    put(folder, "key", key.public())
-    put(folder, "auths", b"".join(m.put_auth(1, h, key.sign(q % 1024, m.signed_text(1, h))) for q in range(many)))
-    took, line, peak = run(program, ["audit", "--segment", "one.seg", "--key", "key", "--auths", "auths", "--evidence", "e"], folder)
-    print("authenticators: %s; %d in %.2f s, %.2f ms each, %.0f MiB" % (line, many, took, 1000 * took / many, peak))
+    authenticators(program, peer, folder, many)
+    longest(program, folder)
 
 
 if __name__ == "__main__":
