@@ -4,6 +4,7 @@ mod building;
 mod echo;
 mod entries;
 mod guests;
+mod images;
 mod keys;
 mod rows;
 mod running;

@@ -24,7 +24,7 @@ const HALTED: [(usize, u8); 6] = [
 ];
 
 /// Its segment from SNAP at count 1024 on, with one byte of the segment raised by so much.
-fn from_snapshot(alloc: Global, at: usize, by: u8) -> Option<Vec<u8>> {
+pub fn from_snapshot(alloc: Global, at: usize, by: u8) -> Option<Vec<u8>> {
     let mut origin = origin_of(alloc, COUNTS, 1024, Vec::new(alloc))?;
     for (place, value) in HALTED {
         if let Some(byte) = origin.head.get_mut(place) {
