@@ -4,7 +4,7 @@ use super::building::{Entry, alone};
 use super::entries::{CALL, HALT, OUT};
 use super::guests::{COUNTS, PRINTS, SPINS};
 use super::rows::from_snapshot;
-use super::running::run;
+use super::running::{Ran, run};
 use std::alloc::Global;
 
 /// The words of the guest that prints but for the last.
@@ -25,7 +25,13 @@ fn image(alloc: Global, words: &[u32]) -> Option<Vec<u8>> {
     Some(bytes)
 }
 
-/// Whether an audit of a segment beside the image of these words prints this line and ends with this status.
+/// An audit of a segment beside an image.
+fn beside(alloc: Global, segment: &[u8], image: &[u8]) -> Option<Ran> {
+    let texts = ["audit", "--segment", "s", "--image", "i"];
+    run(alloc, &texts, &[("s", segment), ("i", image)])
+}
+
+/// Whether an audit beside the image of these words prints this line and ends with this status.
 fn ends_beside(
     alloc: Global,
     segment: &[u8],
@@ -34,9 +40,7 @@ fn ends_beside(
     status: u8,
 ) -> Option<bool> {
     let image = image(alloc, words)?;
-    let texts = ["audit", "--segment", "s", "--image", "i"];
-    let ran = run(alloc, &texts, &[("s", segment), ("i", &image)])?;
-    Some(ran.ended(line, status))
+    Some(beside(alloc, segment, &image)?.ended(line, status))
 }
 
 #[test]
