@@ -1,7 +1,8 @@
 """Times `audit`: a segment of many steps, many authenticators, and the longest files.
-Usage: audit.py PROGRAM PEER FOLDER [STEPS [AUTHS]], where PEER is the program lms_peer.
+Usage: audit.py PROGRAM PEER MACHINE FOLDER [STEPS [AUTHS]], where PEER is the program lms_peer and MACHINE that of bench/machine.
 
-Prints instructions a second of the replay of a segment in 256 pages with a snapshot each 2^20 steps; the time of an audit with
+Prints instructions a second of the replay of a segment in 256 pages with a snapshot each 2^20 steps, beside the machine's steps
+alone on the same five instructions, and their ratio; the time of an audit with
 authenticators (height 10, w 8) beside as many plain calls of `verify`, and their ratio; the time of an audit of a segment of
 nearly 2^26 bytes with nearly 2^24 bytes of authenticators; and the greatest resident memory of each run of the program."""
 import os
@@ -111,18 +112,25 @@ def longest(program, folder):
     print("longest: %s; %d entries, %d authenticators in %.1f s, %.0f MiB" % (line, len(frames), count, took, peak))
 
 
+def replay(program, machine, folder, steps):
+    """The audit of the loop's segment, beside as many steps of the machine without a log."""
+    _, line, peak = run(program, ["audit", "--segment", "loop.seg"], folder)
+    took, _ = best(3, [os.path.abspath(program), "audit", "--segment", "loop.seg"], folder)
+    alone, _ = best(3, [os.path.abspath(machine)], folder, b"step moves %d\n" % steps)
+    print("replay: %s; %d steps in %.2f s, %.1f million a second, %.0f MiB; steps alone %.1f million a second; ratio %.2f"
+          % (line, steps, took, steps / took / 1e6, peak, steps / alone / 1e6, alone / took))
+
+
 def main():
-    program, peer, folder = sys.argv[1], sys.argv[2], sys.argv[3]
-    steps = int(sys.argv[4]) if len(sys.argv) > 4 else 10_000_000
-    many = int(sys.argv[5]) if len(sys.argv) > 5 else 1000
+    program, peer, machine, folder = sys.argv[1:5]
+    steps = int(sys.argv[5]) if len(sys.argv) > 5 else 10_000_000
+    many = int(sys.argv[6]) if len(sys.argv) > 6 else 1000
     os.makedirs(folder, exist_ok=True)
     image = m.words(LOOP)
     state = m.Machine(snap=1 << 20, pages=256, ram=image.ljust(4096 * 256, b"\0"))
     frames = fast_frames(state, steps)
     put(folder, "loop.seg", m.put_segment(1, bytes(32), state, frames))
-    took, line, peak = run(program, ["audit", "--segment", "loop.seg"], folder)
-    made = int.from_bytes(frames[-1][2][:8], "big")
-    print("replay: %s; %d steps in %.2f s, %.1f million a second, %.0f MiB" % (line, made, took, made / took / 1e6, peak))
+    replay(program, machine, folder, int.from_bytes(frames[-1][2][:8], "big"))
     authenticators(program, peer, folder, many)
     longest(program, folder)
 

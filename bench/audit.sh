@@ -1,8 +1,11 @@
 #!/bin/sh
-# Times the program's `audit` (no part of the gate): replay of ten million steps, 1,000 authenticators beside plain calls of
-# `verify`, and the longest files.
+# Times the program's `audit` (no part of the gate): replay of ten million steps beside `Machine::try_step` alone, 1,000
+# authenticators beside plain calls of `verify`, and the longest files.
 set -eu
 cd "$(dirname "$0")/.."
 [ -x crates/avm_cli/out/avm_cli ] || { echo "bench: build the program first: ./avm --help, then a run" >&2; exit 1; }
 [ -x crates/lms_peer/out/lms_peer ] || (cd crates/lms_peer && rt run < stdin > /dev/null)
-python3 bench/audit.py crates/avm_cli/out/avm_cli crates/lms_peer/out/lms_peer out/bench "$@"
+folder=$(mktemp -d)
+trap 'rm -rf "$folder"' EXIT
+machine=$(bench/build_machine.sh "$folder")
+python3 bench/audit.py crates/avm_cli/out/avm_cli crates/lms_peer/out/lms_peer "$machine" out/bench "$@"

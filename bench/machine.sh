@@ -7,18 +7,8 @@ cd "$(dirname "$0")/.."
 rounds=${1:-50000000}
 folder=$(mktemp -d)
 trap 'rm -rf "$folder"' EXIT
-mkdir -p "$folder/crates/bench_machine/src" "$folder/crates/bench_machine/specs"
-for name in avm_num avm_model rv32_decode rv32_core rv32_mem guest_dev guest_machine; do
-    cp -r "crates/$name" "$folder/crates/"
-    grep "^$name:" crates.txt >> "$folder/crates.txt"
-done
-echo 'bench_machine: avm_num avm_model circular_buffer rv32_decode rv32_core rv32_mem guest_dev guest_machine' >> "$folder/crates.txt"
-cp bench/machine/main.rt.txt "$folder/crates/bench_machine/src/main.rt"
-cp bench/machine/Memory.antt.txt "$folder/crates/bench_machine/specs/Memory.antt"
-echo 'pub mod Memory' > "$folder/crates/bench_machine/specs/Lib.antt"
 gcc -O2 -o "$folder/plain" bench/machine.c
-(cd "$folder" && git init -q && cd crates/bench_machine && rt run < /dev/null > "$folder/log" 2>&1) || { tail "$folder/log"; exit 1; }
-program="$folder/crates/bench_machine/out/bench_machine"
+program=$(bench/build_machine.sh "$folder")
 time_of() { # a command: nanoseconds
     start=$(date +%s%N)
     "$@" > "$folder/last"
