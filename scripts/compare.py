@@ -282,11 +282,11 @@ def images(c):
     c.put("good.image", hello), c.put("bad.image", b""), c.put("good.key", key), c.put("bad.key", key[:55]), c.put("no.segment", b"x")
     c.put("no.auths", b"x")
     for segment, image, name, auths, line, status in [
-            ("absent", "bad.image", "bad.key", "absent", "refused file --segment", 3),
-            ("no.segment", "absent", "bad.key", "absent", "refused file --image", 3),
-            ("no.segment", "bad.image", "bad.key", "absent", "refused file --image", 3),
-            ("no.segment", "good.image", "bad.key", "absent", "refused file --key", 3),
-            ("no.segment", "good.image", "good.key", "absent", "refused file --auths", 3),
+            ("absent", "bad.image", "bad.key", "lost", "refused file --segment", 3),
+            ("no.segment", "absent", "bad.key", "lost", "refused file --image", 3),
+            ("no.segment", "bad.image", "bad.key", "lost", "refused file --image", 3),
+            ("no.segment", "good.image", "bad.key", "lost", "refused file --key", 3),
+            ("no.segment", "good.image", "good.key", "lost", "refused file --auths", 3),
             ("no.segment", "good.image", "good.key", "no.auths", "refused malformed", 2)]:
         words = ["audit", "--evidence", "e", "--auths", auths, "--key", name, "--image", image, "--segment", segment]
         c.expect("order: " + " ".join(words), words, line, status)
