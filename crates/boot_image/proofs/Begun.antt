@@ -5,8 +5,7 @@ use Rattle.avm_model.specs.Audit.{entry_frames}
 use Rattle.avm_model.specs.Head.{HeadData}
 use Rattle.avm_model.specs.HeadReading.{head_of}
 use Rattle.avm_model.specs.HeadState.{state_of}
-use Rattle.avm_model.specs.ImageState.{IsImageOf, is_image_of}
-use Rattle.avm_model.specs.Machine.{State}
+use Rattle.avm_model.specs.ImageState.{is_image_of}
 use Rattle.avm_model.specs.Segment.{SegmentData, segment_of, whole_segment_of}
 use Rattle.avm_model.proofs.ImageLaws.{image_from, image_to}
 use Rattle.avm_num.specs.declared.NoMemory.{NoMemory}

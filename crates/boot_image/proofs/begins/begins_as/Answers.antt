@@ -1,4 +1,4 @@
-use Rattle.std.proofs.Common.{◌≡◌, true, false, is_some, sym, ◌∙◌, rules}
+use Rattle.std.proofs.Common.{sym, ◌∙◌}
 use Rattle.avm_model.specs.HeadReading.{head_of}
 use Rattle.log_entry.proofs.Options.{is_some_is}
 use Rattle.seg_file.specs.Views.{segment_view}

@@ -1,6 +1,5 @@
-use Rattle.std.proofs.Common.{◌≡◌, ℕ, ◌/◌, ◌<◌, ◌^◌, length, IsTrue, refl, ap, sym, subst, ◌∙◌, rules}
+use Rattle.std.proofs.Common.{ℕ, ◌/◌, ◌<◌, ◌^◌, length, IsTrue, refl, ap, sym, subst, ◌∙◌, rules}
 use Rattle.avm_model.specs.HeadReading.{head_of}
-use Rattle.avm_model.specs.Head.{HeadData}
 use Rattle.avm_model.specs.HeadState.{state_of}
 use Rattle.avm_model.specs.ImageState.{is_booted}
 use Rattle.avm_model.specs.Machine.{State, MachineState}
