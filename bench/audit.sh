@@ -1,5 +1,5 @@
 #!/bin/sh
-# Times the program's `audit` (no part of the gate): replay of ten million steps beside `Machine::try_step` alone, 1,000
+# Times the program's `audit` (no part of the gate): replay of ten million steps beside `Machine::step_into` alone, 1,000
 # authenticators beside plain calls of `verify`, and the longest files.
 set -eu
 cd "$(dirname "$0")/.."

@@ -1,5 +1,5 @@
 #!/bin/sh
-# Instructions a second of `exec` over RAM and of `Machine::try_step`, beside an interpreter in plain C (gcc -O2), as ratios of
+# Instructions a second of `exec` over RAM and of `Machine::step_into`, beside an interpreter in plain C (gcc -O2), as ratios of
 # one run, on two loops: ADDI, LW, ADD, SW, BNE and MUL, DIVU, XOR, SRLI, BLTU.
 # Usage: machine.sh [INSTRUCTIONS]. The program is built in a copy of the repository; the best of five times counts.
 set -eu

@@ -140,18 +140,19 @@ impl Bus for Board {
 
 // The end of a step.
 impl Board {
-    /// Ends a step: the line where it is complete, what was sent, and whether the guest waits.
-    pub fn finish(&mut self) -> (Line, Option<Sent>, bool)
-        ensures line { line_list result.0 ≡ out_line (is_complete self.old.devices.line) self.old.devices.line }
-        ensures sent { result.1 ≡ self.old.send }
-        ensures waits { result.2 ≡ self.old.waits }
+    /// Ends a step: takes the line out where it is complete, and tells what was sent and whether the guest waits.
+    pub fn finish(&mut self, line: &mut Line) -> (Option<Sent>, bool)
+        requires none { line.old.len ≡ 0 }
+        ensures line { line_list line.new ≡ out_line (is_complete self.old.devices.line) self.old.devices.line }
+        ensures sent { result.0 ≡ self.old.send }
+        ensures waits { result.1 ≡ self.old.waits }
         ensures after { self.new ≡ finished self.old (is_complete self.old.devices.line) }
     {
-        let line = complete_line(&mut self.devices);
+        complete_line(&mut self.devices, line);
         let (sent, waits) = (self.sent, self.waits);
         self.sent = None;
         self.waits = false;
-        (line, sent, waits)
+        (sent, waits)
     }
 
     /// Ends a halting step: the line, unless it is empty.

@@ -1,17 +1,17 @@
 -- Steps without outputs, and the first step with outputs, are what the judge makes.
-use Rattle.std.proofs.Common.{◌≡◌, ℕ, ◌+◌, ◌-◌, ◌<◌, Bool, true, false, not, is_some, List, [], ◌∷◌, ◌++◌, map, Option, Some, None, refl, sym, ap, ◌∙◌, arith}
+use Rattle.std.proofs.Common.{◌≡◌, ℕ, zero, suc, ◌+◌, ◌-◌, ◌<◌, Bool, true, false, not, is_some, List, [], ◌∷◌, ◌++◌, map, Option, Some, None, refl, sym, ap, ◌∙◌, arith}
 use Rattle.std.specs.Prelude.{if◌then◌else◌, ◌==◌, ◌&&◌, take}
 use Rattle.avm_model.specs.Machine.{State, Output, Out, out_send}
 use Rattle.avm_model.specs.Memory.{RamState}
 use Rattle.avm_model.specs.PageMarks.{MarksPages}
-use Rattle.avm_model.specs.Judge.{quiet, settle}
+use Rattle.avm_model.specs.Judge.{quiet, quiet_step, settle}
 use Rattle.avm_model.specs.Reference.{Made, made_of, step_of, timed}
 use Rattle.avm_model.specs.declared.Sent.{Sent}
 use Rattle.avm_model.proofs.ReplayLaws.{settle_past}
 use Rattle.avm_model.proofs.ReferenceLaws.{step_counts}
-use Rattle.guest_machine.specs.Outs.{halt_list, snap_list}
+use Rattle.guest_machine.specs.Outs.{halt_list, snap_list, IsEmpty}
 use Rattle.guest_machine.specs.declared.outs.Outs.{Outs}
-use Rattle.replayer.specs.Pending.{pending_of, stand_of, IsEmpty}
+use Rattle.replayer.specs.Pending.{pending_of, stand_of}
 
 none_pending : (s : State) (o : Outs) → IsEmpty o → pending_of s o ≡ []
 none_pending s o e = ap (λ (os : List Output). map (made_of s) os) (e.list s.devices.window)
@@ -22,6 +22,19 @@ step_on s t o c e lt empty =
     let n : t.count ≡ s.count + 1 = step_counts s t (pending_of t o) e in
     let e2 : step_of s ≡ Some (t, []) = e ∙ ap (λ (os : List Made). Some (t, os)) (none_pending t o empty) in
     (n, sym (settle_past timed c s t [] e2 n (omega (arith, n, lt))))
+
+-- no step can be made
+quiet_none : (s : State) (k : ℕ) → step_of s ≡ None → quiet timed k s ≡ record { state = s; pending = [] }
+quiet_none s zero e = refl
+quiet_none s (suc k) e = ap (quiet_step (quiet timed k) s) e
+
+pub step_none : (old s t : State) (before p o : Outs) (c : ℕ) → IsEmpty before → IsEmpty p → step_of s ≡ None → t ≡ s → o ≡ p
+    → quiet timed (c - s.count) s ≡ quiet timed (c - old.count) old
+    → settle timed c old (pending_of old before) ≡ stand_of t o
+step_none old s t before p o c empty none e is_s is_p same =
+    let there : record { state = s; pending = [] } ≡ stand_of s p = ap (λ (os : List Made). record { state = s; pending = os }) (sym (none_pending s p none)) in
+    ap (λ (os : List Made). settle timed c old os) (none_pending old before empty) ∙ sym same ∙ quiet_none s (c - s.count) e ∙ there
+    ∙ ap (λ (x : State). stand_of x p) (sym is_s) ∙ ap (λ (q : Outs). stand_of t q) (sym is_p)
 
 -- some output is there
 pub record IsFull (os : List Output) : Type 0 where

@@ -1,5 +1,5 @@
 -- The outputs of the last step that no entry has matched yet.
-use Rattle.std.specs.Prelude.{◌≡◌, ℕ, List, [], map}
+use Rattle.std.specs.Prelude.{List, map}
 use Rattle.avm_model.specs.Machine.{State, MachineState}
 use Rattle.avm_model.specs.Memory.{RamState}
 use Rattle.avm_model.specs.Rerun.{Stand}
@@ -17,7 +17,3 @@ stand_of s o = record { state = s; pending = pending_of s o }
 -- the RAM of a machine, with its marks
 abbrev pub ram_of : MachineState → RamState
 ram_of m = record { bytes = m.state.ram; dirty = m.dirty }
-
--- no output is left
-pub record IsEmpty (o : Outs) : Type 0 where
-  pub list : (window : List ℕ) → outs_list o window ≡ []

@@ -1,36 +1,12 @@
 //! Outputs of the last step that no entry has matched yet, and how the next entry is matched.
 
-ghost use Rattle.std.specs.Prelude.{◌≡◌, ◌==◌, ◌&&◌, not, is_some, take, [], Some, None, MatchBool, false, true, List, ℕ};
-ghost use Rattle.std.specs.Bool.{OnTrue};
+ghost use Rattle.std.specs.Prelude.{◌≡◌, take, [], Some, None, MatchBool, false, true, List, ℕ};
 ghost use Rattle.avm_model.specs.Judge.{compare};
 ghost use Rattle.avm_model.specs.Reference.{timed, OutAt, SendAt, HaltAt, SnapAt, NothingAt};
 ghost use Rattle.guest_machine.specs.Outs.{outs_list};
-ghost use Rattle.replayer.specs.Pending.{pending_of, stand_of, IsEmpty};
+ghost use Rattle.replayer.specs.Pending.{pending_of, stand_of};
 
 use guest_machine::{Line, Machine, Outs, Sent};
-
-/// No outputs.
-pub fn no_outs() -> Outs
-    ensures { IsEmpty result }
-{
-    Outs {
-        line: Line {
-            len: 0,
-            bytes: [0; 128],
-        },
-        sent: None,
-        halt: None,
-        snap: false,
-    }
-}
-
-/// Whether no output is left.
-pub fn is_empty(outs: &Outs) -> bool
-    ensures none { OnTrue result (IsEmpty outs.now) }
-    ensures value { result ≡ ((outs.now.line.len == 0) && not (is_some outs.now.sent) && not (is_some outs.now.halt) && not outs.now.snap) }
-{
-    outs.line.len == 0 && outs.sent.is_none() && outs.halt.is_none() && !outs.snap
-}
 
 /// The bytes of a line.
 fn line_bytes(line: &Line) -> &[u8]

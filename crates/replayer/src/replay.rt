@@ -12,7 +12,6 @@ ghost use Rattle.page_tree.specs.Nodes.{IsStale};
 ghost use Rattle.replayer.specs.Pending.{ram_of};
 
 use crate::judging::judge;
-use crate::pending::no_outs;
 use guest_machine::{Machine, Outs};
 use log_entry::{Frame, content};
 use page_tree::Tree;
@@ -52,7 +51,7 @@ impl Replay {
         Replay {
             machine,
             tree,
-            pending: no_outs(),
+            pending: Outs::none(),
             fault: None,
         }
     }

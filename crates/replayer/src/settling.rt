@@ -1,24 +1,26 @@
 //! Steps up to the next output.
 
-ghost use Rattle.std.specs.Prelude.{◌≡◌, ◌<◌, ◌-◌, ◌+◌, ◌≤◌, ◌^◌, Some, None, IfSome, IfNone, MatchOption};
+ghost use Rattle.std.specs.Prelude.{◌≡◌, ◌<◌, ◌-◌, ◌+◌, ◌≤◌, ◌^◌, Some, None};
+ghost use Rattle.std.specs.Bool.{OnTrue, OnFalse};
 ghost use Rattle.avm_model.specs.Judge.{settle as settle_lem};
 ghost use Rattle.avm_model.specs.PageMarks.{MarksPages};
 ghost use Rattle.avm_model.specs.Reference.{timed, step_of};
 ghost use Rattle.replayer.specs.Pending.{pending_of, stand_of, ram_of};
 
-use crate::pending::is_empty;
 use guest_machine::{Machine, Outs};
 
-/// One step, where the machine can make one.
+/// One step into the outputs, which hold no line before it, where the machine can make one; else both are as before.
 #[tactic(auto, unfolding(avm_model::specs::Reference::step_of))]
-fn try_step(machine: &mut Machine) -> Option<Outs>
+fn step_on(machine: &mut Machine, pending: &mut Outs) -> bool
     requires room { machine.old.state.count < 2 ^ 62 - 1 }
-    ensures some { IfSome result (λ o. step_of machine.old.state ≡ Some (machine.new.state, pending_of machine.new.state o)) }
-    ensures none { IfNone result (step_of machine.old.state ≡ None) }
-    ensures same { IfNone result (machine.new ≡ machine.old) }
+    requires none { pending.old.line.len ≡ 0 }
+    ensures yes { OnTrue result (step_of machine.old.state ≡ Some (machine.new.state, pending_of machine.new.state pending.new)) }
+    ensures no { OnFalse result (step_of machine.old.state ≡ None) }
+    ensures same { OnFalse result (machine.new ≡ machine.old) }
+    ensures left { OnFalse result (pending.new ≡ pending.old) }
     ensures marks { MarksPages (ram_of machine.old) (ram_of machine.new) }
 {
-    machine.try_step()
+    machine.step_into(pending)
 }
 
 /// Steps until there is an output, or the count is reached, or no step can be made.
@@ -27,15 +29,14 @@ fn advance(machine: &mut Machine, pending: &mut Outs, count: u64)
     ensures stand { settle_lem timed count machine.old.state (pending_of machine.old.state pending.old) ≡ stand_of machine.new.state pending.new }
     ensures marks { MarksPages (ram_of machine.old) (ram_of machine.new) }
 {
-    if !is_empty(pending) {
+    if !pending.is_empty() {
         return;
     }
     for _ in machine.count()..count {
-        let Some(outs) = try_step(machine) else {
+        if !step_on(machine, pending) {
             return;
-        };
-        if !is_empty(&outs) {
-            *pending = outs;
+        }
+        if !pending.is_empty() {
             return;
         }
     }

@@ -11,7 +11,6 @@ ghost use Rattle.replayer.specs.Pending.{pending_of, stand_of, ram_of};
 ghost use Rattle.replayer.specs.Taking.{machine_taken};
 
 use crate::offering::{take_ack, take_data};
-use crate::pending::is_empty;
 use guest_machine::{Input, Machine, NotTaken, Outs};
 
 /// An input as a log has it.
@@ -75,5 +74,5 @@ pub fn accept_input(machine: &mut Machine, pending: &Outs, count: u64, input: In
     ensures ram { ram_of machine.new ≡ ram_of machine.old }
     ensures count { machine.new.state.count ≡ machine.old.state.count }
 {
-    is_empty(pending) && machine.count() == count && take_at(machine, count, input)
+    pending.is_empty() && machine.count() == count && take_at(machine, count, input)
 }

@@ -1,5 +1,4 @@
 use Rattle.std.proofs.Common.{ap}
-use Rattle.avm_model.specs.Machine.{MachineState}
 use Rattle.replayer.specs.Pending.{ram_of}
 use Rattle.replayer.proofs.Built.{built}
 use Rattle.replayer.proofs.tests.replay.Goals as goal
