@@ -6,6 +6,7 @@ mod real_disk;
 mod real_files;
 mod real_sink;
 
+use avm_outside::Sink;
 use avm_top::avm;
 use real_disk::RealDisk;
 use real_files::RealFiles;
@@ -21,7 +22,7 @@ fn main(rt: HostRuntime) -> ExitCode {
     let mut out = RealSink::new(&rt);
     let words = match words(&rt) {
         Ok(words) => words,
-        Err(AllocError) => return ExitCode::from(5),
+        Err(AllocError) => return no_memory(&mut out),
     };
     let status = avm(
         rt.alloc(),
@@ -32,6 +33,14 @@ fn main(rt: HostRuntime) -> ExitCode {
         &mut out,
     );
     ExitCode::from(status)
+}
+
+// The end of a run whose words find no memory, as `avm` ends for want of it.
+fn no_memory(out: &mut RealSink<'_>) -> ExitCode {
+    match out.write(b"no memory\n") {
+        Ok(()) => ExitCode::from(5),
+        Err(_) => ExitCode::from(4),
+    }
 }
 
 // The words after the program's name; none where one isn't text.

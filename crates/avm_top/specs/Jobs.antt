@@ -27,8 +27,9 @@ EndsAs (Some (audit segment image signed)) old new end = AuditEnds segment image
 EndsAs (Some (check key evidence)) old new end = CheckEnds key evidence old end
 EndsAs (Some job) old new end = end ≡ RefusedNotBuilt
 
--- what a job leaves that a fault of the files ends
+-- what a job leaves that a fault of the files ends; a job that isn't built, and words that name none, meet no such fault
 abbrev pub LeavesAs : Option JobData → FileMap → FileMap → Type 0
 LeavesAs (Some (keygen height w id seed key public)) old new = KeysCut (key_of_words height w id seed) key public old new
 LeavesAs (Some (audit segment image signed)) old new = AuditLeaves segment image signed old new
-LeavesAs job old new = Unit {0}
+LeavesAs (Some (check key evidence)) old new = Unit {0}
+LeavesAs job old new = ⊥

@@ -1,8 +1,8 @@
-ghost use Rattle.std.specs.Prelude.{◌≡◌, ◌≤◌, ◌+◌, ◌↔◌, IsTrue, length, take, drop};
+ghost use Rattle.std.specs.Prelude.{◌≡◌, ◌≤◌, ◌+◌, ◌↔◌, IsTrue, length, take, drop, Some};
 ghost use Rattle.std.specs.Option.{option_map};
 ghost use Rattle.avm_num.specs.Room.{with_bytes, left};
 ghost use Rattle.avm_model.specs.LmsValid.{number};
-ghost use Rattle.avm_model.specs.Keys.{key_bytes, key_file, fields_of, HasTypes, IsKeyOf};
+ghost use Rattle.avm_model.specs.Keys.{KeyData, key_bytes, key_file, fields_of, FitsKey, HasTypes, IsKeyOf};
 ghost use Rattle.lms_signer.specs.Views.{key_data};
 
 use avm_hash::Digest;
@@ -17,11 +17,12 @@ pub struct KeyFile {
     pub seed: Digest,
 }
 
-/// Appends the private key file: docs/FORMATS.md, "Key files". It needs 61 bytes of room.
+/// Appends the private key file: docs/FORMATS.md, "Key files". It needs 61 bytes of room. A key that fits is read again as it was.
 pub fn put_key(out: &mut Room, key: &KeyFile)
     requires { 61 ≤ left out.old }
     ensures value { out.new ≡ with_bytes out.old (key_bytes (key_data key.now)) }
     ensures left { left out.new + 61 ≡ left out.old }
+    ensures again { (k : KeyData) → FitsKey k → key_file (key_bytes k) ≡ Some k }
 {
     out.put(&[65, 86, 77, 75, 1]);
     out.put_u32(key.lms);
