@@ -1,6 +1,6 @@
 #!/bin/sh
 # Holds what the program prints and writes against the independent model. Skipped where the program isn't built (the gate
-# builds its own copy and keeps none) or Python is missing.
+# and ./avm build it) or Python is missing.
 set -eu
 cd "$(dirname "$0")/.."
 program=crates/avm_cli/out/avm_cli
