@@ -69,6 +69,13 @@ class Comparison:
         good = m.holds(evidence, key)
         self.expect(case, words, "evidence stands" if good else "refused evidence", 0 if good else 2)
 
+    def end(self, name=""):
+        """Prints what failed and the counts, and gives the status."""
+        for line in self.failed[:40]:
+            print(line)
+        print("%s%d passed, %d failed" % (name, self.passed, len(self.failed)))
+        return 1 if self.failed else 0
+
 
 def machine(text, pages=1, **more):
     image = m.words(text)
@@ -338,10 +345,7 @@ def main():
     images(c)
     random_guests(c, 60)
     damaged(c, 120)
-    for line in c.failed[:40]:
-        print(line)
-    print("%d passed, %d failed" % (c.passed, len(c.failed)))
-    return 1 if c.failed else 0
+    return c.end()
 
 
 if __name__ == "__main__":

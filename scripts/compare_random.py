@@ -114,10 +114,7 @@ def main():
             c.audit(case, segment)
         else:
             c.audit(case + ", signed", segment, keys[0].public(), authenticators(r, frames, keys))
-    for line in c.failed[:40]:
-        print(line)
-    print("drawn guests: %d passed, %d failed" % (c.passed, len(c.failed)))
-    return 1 if c.failed else 0
+    return c.end("drawn guests: ")
 
 
 if __name__ == "__main__":
