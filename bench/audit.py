@@ -1,10 +1,13 @@
 """Times `audit`: a segment of many steps, many authenticators, and the longest files.
-Usage: audit.py PROGRAM PEER MACHINE FOLDER [STEPS [AUTHS]], where PEER is the program lms_peer and MACHINE that of bench/machine.
+Usage: audit.py PROGRAM PEER MACHINE HASH FOLDER [STEPS [AUTHS]], where PEER is the program lms_peer, MACHINE that of bench/machine and
+HASH that of bench/hash.
 
 Prints instructions a second of the replay of a segment in 256 pages with a snapshot each 2^20 steps, beside the machine's steps
 alone on the same five instructions, and their ratio; the time of an audit with
 authenticators (height 10, w 8) beside as many plain calls of `verify`, and their ratio; the time of an audit of a segment of
-nearly 2^26 bytes with nearly 2^24 bytes of authenticators; and the greatest resident memory of each run of the program."""
+nearly 2^26 bytes with nearly 2^24 bytes of authenticators; the memory of the audit of a segment of nearly 2^26 bytes and one page, without
+evidence, beside that of the shortest segment, and its time beside hashing the same bytes once; the time of as many authenticators as a file
+may have beside as many plain calls of `verify`; and the greatest resident memory of each run of the program."""
 import os
 import resource
 import subprocess
@@ -91,6 +94,26 @@ def authenticators(program, peer, folder, many):
           % (line.strip(), many, audit, 1000 * audit / many, calls, audit / calls))
 
 
+def short_entries(program, hash_program, folder):
+    """A segment of one page and entries of one byte, nearly 2^26 bytes: what the audit takes beside the shortest segment, and beside
+    hashing its bytes once with the kit's SHA-256. Goals: at most 4 MiB more, at most 2.5 times."""
+    state = m.Machine(snap=1 << 24, ram=m.words("0000006f").ljust(4096, b"\0"))
+    frames = [(1, m.BOOT, m.u64(0) + state.root())]
+    put(folder, "short.seg", m.put_segment(1, bytes(32), state, frames))
+    room = (1 << 26) - len(m.put_segment(1, bytes(32), state, frames))
+    frames += [(2 + i, m.CONIN, m.u64(0) + b"a") for i in range(room // 22)]
+    data = m.put_segment(1, bytes(32), state, frames)
+    put(folder, "entries.seg", data)
+    _, _, least = run(program, ["audit", "--segment", "short.seg"], folder)
+    _, line, peak = run(program, ["audit", "--segment", "entries.seg"], folder)
+    took, _ = best(3, [os.path.abspath(program), "audit", "--segment", "entries.seg"], folder)
+    # ten times 16 MiB, page by page
+    hashed, _ = best(3, [os.path.abspath(hash_program), "singles"], folder)
+    hashed = hashed * len(data) / (10 << 24)
+    print("entries: %s; %d bytes, %d entries in %.2f s, %.1f MiB, %.1f MiB beside the shortest; hashing alone %.2f s; ratio %.2f"
+          % (line, len(data), len(frames), took, peak, peak - least, hashed, took / hashed))
+
+
 def longest(program, folder):
     """A segment of CONIN entries of one byte in 4096 pages, of which only the first 1024 can be taken, and authenticators of its last
     entries: the most that is read, and evidence for a fault."""
@@ -122,9 +145,9 @@ def replay(program, machine, folder, steps):
 
 
 def main():
-    program, peer, machine, folder = sys.argv[1:5]
-    steps = int(sys.argv[5]) if len(sys.argv) > 5 else 10_000_000
-    many = int(sys.argv[6]) if len(sys.argv) > 6 else 1000
+    program, peer, machine, hash_program, folder = sys.argv[1:6]
+    steps = int(sys.argv[6]) if len(sys.argv) > 6 else 10_000_000
+    many = int(sys.argv[7]) if len(sys.argv) > 7 else 12557
     os.makedirs(folder, exist_ok=True)
     image = m.words(LOOP)
     state = m.Machine(snap=1 << 20, pages=256, ram=image.ljust(4096 * 256, b"\0"))
@@ -132,6 +155,7 @@ def main():
     put(folder, "loop.seg", m.put_segment(1, bytes(32), state, frames))
     replay(program, machine, folder, int.from_bytes(frames[-1][2][:8], "big"))
     authenticators(program, peer, folder, many)
+    short_entries(program, hash_program, folder)
     longest(program, folder)
 
 

@@ -1,6 +1,6 @@
 #!/bin/sh
-# Times the program's `audit` (no part of the gate): replay of ten million steps beside `Machine::step_into` alone, 1,000
-# authenticators beside plain calls of `verify`, and the longest files.
+# Times the program's `audit` (no part of the gate): replay of ten million steps beside `Machine::step_into` alone, 12,557
+# authenticators beside plain calls of `verify`, short entries in 64 MiB beside hashing as many bytes, and the longest files.
 set -eu
 cd "$(dirname "$0")/.."
 [ -x crates/avm_cli/out/avm_cli ] || { echo "bench: build the program first: ./avm --help, then a run" >&2; exit 1; }
@@ -8,4 +8,5 @@ cd "$(dirname "$0")/.."
 folder=$(mktemp -d)
 trap 'rm -rf "$folder"' EXIT
 machine=$(bench/build_machine.sh "$folder")
-python3 bench/audit.py crates/avm_cli/out/avm_cli crates/lms_peer/out/lms_peer "$machine" out/bench "$@"
+hash=$(bench/build.sh "$folder" hash lane_kern sha2 avm_num avm_model avm_hash rv32_mem page_tree)
+python3 bench/audit.py crates/avm_cli/out/avm_cli crates/lms_peer/out/lms_peer "$machine" "$hash" out/bench "$@"

@@ -1,14 +1,19 @@
-/* RV32IM in plain C, with a switch and bounds-checked RAM: what machine.sh compares avm with. Usage: plain GUEST ROUNDS. */
+/* RV32IM in plain C, with a switch and bounds-checked RAM: what machine.sh and replay.sh compare avm with.
+   Usage: plain GUEST ROUNDS, a loop of so many instructions; or plain image FILE, flat bytes of RAM that run until they halt: what
+   they print goes to standard output, and the count and the cause of the halt behind it. */
 #include <stdint.h>
 #include <stdio.h>
 #include <stdlib.h>
 #include <string.h>
 
-enum { SIZE = 4096 };
+enum { SIZE = 4096 * 16, LINE = 128 };
 
 struct machine {
     uint32_t x[32], pc;
     uint8_t ram[SIZE], dirty[SIZE / 4096];
+    uint64_t count;
+    char line[LINE];
+    uint32_t length;
 };
 
 static int load(const struct machine *m, uint32_t address, uint32_t bytes, uint32_t *value) {
@@ -24,6 +29,18 @@ static int store(struct machine *m, uint32_t address, uint32_t bytes, uint32_t v
     if ((address & (bytes - 1)) != 0 || at >= SIZE || at + bytes > SIZE) return 0;
     memcpy(m->ram + at, &value, bytes);
     m->dirty[at / 4096] = 1;
+    return 1;
+}
+
+/* A word to the console: a line goes out with its count at its end. */
+static int device_store(struct machine *m, uint32_t address, uint32_t bytes, uint32_t value) {
+    if (address != 0x10000000u || bytes != 4) return 0;
+    m->line[m->length++] = (char)value;
+    if (m->length == LINE || (uint8_t)value == 10) {
+        printf("%llu ", (unsigned long long)m->count + 1);
+        fwrite(m->line, 1, m->length, stdout);
+        m->length = 0;
+    }
     return 1;
 }
 
@@ -103,7 +120,7 @@ static int step(struct machine *m) {
         if (f3 > 2) return 3;
         i = (i & ~31u) | rd;
         if ((a + i) & ((1u << f3) - 1)) return 6;
-        if (!store(m, a + i, 1u << f3, b)) return 8;
+        if (!store(m, a + i, 1u << f3, b) && !device_store(m, a + i, 1u << f3, b)) return 8;
         m->pc = next;
         return 0;
     case 0x13:
@@ -126,12 +143,25 @@ static int step(struct machine *m) {
     return 0;
 }
 
+static int run_image(struct machine *m, const char *name) {
+    FILE *file = fopen(name, "rb");
+    if (!file) return 1;
+    size_t got = fread(m->ram, 1, SIZE, file);
+    fclose(file);
+    m->pc = 0x80000000u;
+    int cause;
+    while (got != 0 && (cause = step(m)) == 0) m->count++;
+    printf("%llu halt %d %u\n", (unsigned long long)m->count + 1, cause, m->x[10]);
+    return 0;
+}
+
 int main(int count, char **words) {
     static const uint32_t guests[2][7] = {
         {0x00000193, 0x800000b7, 0x00118193, 0x4000a203, 0x00320233, 0x4040a023, 0xfe0198e3},
         {0x00100193, 0x04d00293, 0x025181b3, 0x0251d233, 0x003241b3, 0x0031d313, 0xfe5068e3}};
     static struct machine m;
     if (count != 3) return 1;
+    if (strcmp(words[1], "image") == 0) return run_image(&m, words[2]);
     memcpy(m.ram, guests[strcmp(words[1], "moves") != 0], sizeof guests[0]);
     m.pc = 0x80000000u;
     for (long i = atol(words[2]); i > 0 && step(&m) == 0; i--) {

@@ -1,5 +1,5 @@
 #!/usr/bin/env bash
-# Computes the chain of the three entries in crates/log_chain/src/tests.rt with the system's sha256sum, and compares it
+# Computes the chain of the three entries in crates/format_tests/src/chains.rt with the system's sha256sum, and compares it
 # with the hashes that stand there. Skipped where sha256sum is missing. It rests on nothing of this repository's code.
 set -eu
 cd "$(dirname "$0")/.."
@@ -10,7 +10,7 @@ hash() { printf "$(printf '%s' "$1" | sed 's/../\\x&/g')" | sha256sum | cut -d '
 
 # the bytes of a constant of the test, in hex
 constant() {
-  awk -v name="const $1:" 'index($0, name) == 1 { on = 1 } on { print } on && /;$/ { exit }' crates/log_chain/src/tests.rt |
+  awk -v name="const $1:" 'index($0, name) == 1 { on = 1 } on { print } on && /;$/ { exit }' crates/format_tests/src/chains.rt |
     grep -o '0x[0-9a-f]*' | sed 's/0x//' | tr -d '\n'
 }
 

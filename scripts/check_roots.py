@@ -1,5 +1,5 @@
 """The page roots of RAMs whose page f is filled with the byte 7f + 1, by hashlib alone (docs/FORMATS.md, Roots), against the
-roots that stand in the tests of page_tree."""
+roots that stand in the tests of page_tree (crates/state_tests)."""
 
 import hashlib
 import re
@@ -22,7 +22,7 @@ def main():
     changed = list(cases["256"])
     changed[3] = changed[255] = page(200)
     cases["256, of which two are changed"] = changed
-    with open("crates/page_tree/src/tests.rt", encoding="utf-8") as file:
+    with open("crates/state_tests/src/trees.rt", encoding="utf-8") as file:
         typed = "".join(re.findall(r"0x([0-9a-f]{2})", file.read()))
     wrong = [name for name, pages in cases.items() if root(pages).hex() not in typed]
     for name in wrong:

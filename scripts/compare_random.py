@@ -9,7 +9,7 @@ import compare
 import model as m
 from model import u64
 
-DEVICES = [0x00, 0x04, 0x08, 0x0c, 0x10, 0x14, 0x18, 0x1c, 0x20, 0x24, 0x28, 0x2c, 0x30]
+DEVICES = [0x00, 0x04, 0x08, 0x0c, 0x10, 0x14, 0x18, 0x1c, 0x20, 0x24, 0x28, 0x2c, 0x30, 0x34, 0x38]
 VALUES = [0, 1, 2, 3, 10, 15, 65, 0x7fffffff, 0x80000000, 0xffffffff]
 # lui x5, 0x80000; lui x6, 0x10000; lui x7, 0x10001: RAM, the devices and the transmit window
 BASES = [0x800002b7, 0x10000337, 0x100013b7]
@@ -44,12 +44,13 @@ def instruction(r):
     return arithmetic(r) if kind < 0.85 else branch(r)
 
 
-def guest(r, key):
+def guest(r, key, versions=(1,)):
     words = BASES + [instruction(r) for _ in range(r.randrange(5, 60))]
     pages = r.choice([1, 1, 2, 4])
     peers = [dict(id=i, key=key, sent=0, acked=0, received=0) for i in sorted(r.sample([1, 2, 3, 15], r.randrange(3)))]
     ram = b"".join(struct.pack("<I", word) for word in words).ljust(4096 * pages, bytes([r.randrange(256)]))
-    state = m.Machine(own=r.choice([0, 5, 7]), ram=ram, snap=r.choice([1024, 1025, 4096]), pages=pages, peers=peers)
+    state = m.Machine(own=r.choice([0, 5, 7]), ram=ram, snap=r.choice([1024, 1025, 4096]), pages=pages, peers=peers,
+                      version=r.choice(versions))
     state.x = [0] + [r.choice(VALUES + [r.getrandbits(32)]) for _ in range(31)]
     return state
 
@@ -103,8 +104,9 @@ def main():
     rounds = int(sys.argv[4]) if len(sys.argv) > 4 else 400
     r, c = random.Random(seed), compare.Comparison(sys.argv[1], sys.argv[2])
     keys = [m.Key(5, 4, bytes(range(16)), bytes([i]) * 32) for i in (0x33, 0x34)]
+    versions = (1, 1, 2) if c.has_bell() else (1,)
     for n in range(rounds):
-        state = guest(r, keys[0].public())
+        state = guest(r, keys[0].public(), versions)
         frames, _ = m.record(state, r.choice([50, 300, 1500, 3000]), inputs(r))
         for _ in range(r.choice([0, 0, 1, 1, 2])):
             change(r, frames)

@@ -12,7 +12,7 @@ use Rattle.avm_model.specs.Marks.{verifies, hash_in}
 use Rattle.avm_model.specs.Audit.{last_number}
 use Rattle.avm_model.specs.Holds.{DoubleHolds, ForkHolds}
 use Rattle.auditor.specs.Tests.{run_on, is_hash, double_test, fork_test}
-use Rattle.auditor.proofs.MarkLaws.{same_refl}
+use Rattle.audit_stream.proofs.MarkLaws.{same_refl}
 
 not_true : (b : Bool) → not b ≡ true → b ≡ false
 not_true false e = refl

@@ -1,8 +1,7 @@
 -- The cover in one pass of the chain: at each entry the first authenticator that matches there takes the best one's place.
-use Rattle.std.proofs.Common.{◌≡◌, ℕ, ◌+◌, ◌<◌, ◌≤◌, Bool, true, false, cond, nat_eq, nat_lt, ◌&&◌, List, [], ◌∷◌, map, Option, Some, None, option_map, refl, sym, ap, ◌∙◌, arith, eqb-true, lt-ltb, subst}
+use Rattle.std.proofs.Common.{◌≡◌, ℕ, ◌+◌, ◌<◌, Bool, true, false, cond, nat_eq, nat_lt, ◌&&◌, List, [], ◌∷◌, map, Option, Some, None, option_map, refl, sym, ap, ◌∙◌, arith, eqb-true, lt-ltb, subst}
 use Rattle.std.specs.Bool.{⊤}
-use Rattle.std.proofs.lemmas.Bool.{le-ltb, ltb-true, ltb-false}
-use Rattle.std.specs.List.{AllByRecursion}
+use Rattle.std.proofs.lemmas.Bool.{le-ltb}
 use Rattle.std.specs.Str.{bytes_eq}
 use Rattle.avm_num.proofs.Numbers.{and_true}
 use Rattle.avm_model.specs.Auth.{AuthData}
@@ -12,9 +11,11 @@ use Rattle.avm_model.specs.Entries.{numbered}
 use Rattle.avm_model.specs.Frame.{FrameData}
 use Rattle.avm_model.specs.Marks.{hash_in, mark_at, marked, is_same, better, cover_from, cover}
 use Rattle.avm_model.specs.declared.judged.Marked.{Marked}
-use Rattle.auditor.specs.Covering.{is_at, least_above}
+use Rattle.audit_stream.specs.Numbers.{least_above, Ahead}
+use Rattle.audit_stream.proofs.Aheads.{least_ahead, ahead_more, ahead_first}
+use Rattle.auditor.specs.Covering.{is_at}
 use Rattle.auditor.proofs.Cuts.{none_before, from_first}
-use Rattle.auditor.proofs.MarkLaws.{mark_same}
+use Rattle.audit_stream.proofs.MarkLaws.{mark_same}
 
 -- what is taken at a number, and what is taken behind it
 abbrev At : ℕ → Option (ℕ × ℕ) → Type 0
@@ -147,35 +148,14 @@ pass_is auths h k fs n = passed_is auths h None k fs n ∙ else_none (cover (map
 
 -- ---- the next number
 
--- no authenticator has a number from n on and below the wanted one
+abbrev auth_number : AuthData → ℕ
+auth_number a = a.seq
+
 abbrev pub Next : ℕ → ℕ → List AuthData → Type 0
-Next n wanted auths = AllByRecursion (λ (a : AuthData). n ≤ a.seq → wanted ≤ a.seq) auths
-
-least_under : (n least : ℕ) (auths : List AuthData) → least_above n least auths ≤ least
-least_under n least [] = omega arith
-least_under n least (a ∷ auths) = go (nat_lt n a.seq) (nat_lt a.seq least) refl (λ x. least_under n x auths)
-  where
-    go : (b c : Bool) → nat_lt a.seq least ≡ c → ((x : ℕ) → least_above n x auths ≤ x) → least_above n (cond (b && c) a.seq least) auths ≤ least
-    go true true q ih = let t = ih a.seq in let s = ltb-true a.seq least q in omega arith
-    go true false q ih = ih least
-    go false c q ih = ih least
-
-pub least_next : (n least : ℕ) (auths : List AuthData) → Next (n + 1) (least_above n least auths) auths
-least_next n least [] = tt
-least_next n least (a ∷ auths) = ((λ (le : n + 1 ≤ a.seq). go (nat_lt n a.seq) refl le (nat_lt a.seq least) refl), least_next n (cond (nat_lt n a.seq && nat_lt a.seq least) a.seq least) auths)
-  where
-    go : (b : Bool) → nat_lt n a.seq ≡ b → n + 1 ≤ a.seq → (c : Bool) → nat_lt a.seq least ≡ c → least_above n (cond (b && c) a.seq least) auths ≤ a.seq
-    go true p le true q = least_under n a.seq auths
-    go true p le false q = let t = least_under n least auths in let s = ltb-false a.seq least q in omega arith
-    go false p le c q = let s = ltb-false n a.seq p in absurd (omega arith)
-
-pub next_more : (n wanted : ℕ) (auths : List AuthData) → Next n wanted auths → Next (n + 1) wanted auths
-next_more n wanted [] h = tt
-next_more n wanted (a ∷ auths) h = ((λ (le : n + 1 ≤ a.seq). h.0 (omega arith)), next_more n wanted auths h.1)
+Next n wanted auths = Ahead auth_number n wanted auths
 
 pub next_first : (n : ℕ) (auths : List AuthData) → Next n 0 auths
-next_first n [] = tt
-next_first n (a ∷ auths) = ((λ (le : n ≤ a.seq). omega arith), next_first n auths)
+next_first n auths = ahead_first auth_number n auths
 
 none_at : (i n wanted : ℕ) (hash : List ℕ) (auths : List AuthData) → Next n wanted auths → n < wanted → first_at (is_at n hash) i auths ≡ None
 none_at i n wanted hash [] h lt = refl
@@ -194,13 +174,13 @@ abbrev pub Passing : List AuthData → List ℕ → List FrameData → List ℕ 
 Passing auths before all h best wanted left = (n : ℕ) → numbered n all ≡ true → (k : ℕ) × (numbered k left ≡ true) × (pass auths h best left ≡ pass auths before None all) × Next k wanted auths
 
 pub passing_taken : (auths : List AuthData) (before : List ℕ) (all : List FrameData) (h g : List ℕ) (best new : Option (ℕ × ℕ)) (wanted next most : ℕ) (left : List FrameData) (f : FrameData) (rest : List FrameData)
-    → left ≡ f ∷ rest → g ≡ next_hash h f → new ≡ taken auths g f.seq best → next ≡ least_above f.seq most auths → Passing auths before all h best wanted left → Passing auths before all g new next rest
+    → left ≡ f ∷ rest → g ≡ next_hash h f → new ≡ taken auths g f.seq best → next ≡ least_above auth_number f.seq most auths → Passing auths before all h best wanted left → Passing auths before all g new next rest
 passing_taken auths before all h g best new wanted next most left f rest e gh nb nx p = λ n num.
     let t = p n num in
     let m = and_true (nat_eq f.seq t.0) (numbered (t.0 + 1) rest) (subst (λ (l : List FrameData). numbered t.0 l ≡ true) e t.1) in
     let s : f.seq ≡ t.0 = eqb-true _ _ m.0 in
     let q : pass auths h best (f ∷ rest) ≡ pass auths before None all = subst (λ (l : List FrameData). pass auths h best l ≡ pass auths before None all) e t.2 in
-    (t.0 + 1, m.1, rw (nb, gh) q, rw (nx, ← s) (least_next f.seq most auths))
+    (t.0 + 1, m.1, rw (nb, gh) q, rw (nx, ← s) (least_ahead auth_number f.seq most auths))
 
 pub passing_not : (auths : List AuthData) (before : List ℕ) (all : List FrameData) (h g : List ℕ) (best : Option (ℕ × ℕ)) (wanted : ℕ) (left : List FrameData) (f : FrameData) (rest : List FrameData)
     → left ≡ f ∷ rest → g ≡ next_hash h f → f.seq < wanted → Passing auths before all h best wanted left → Passing auths before all g best wanted rest
@@ -210,7 +190,7 @@ passing_not auths before all h g best wanted left f rest e gh lt p = λ n num.
     let s : f.seq ≡ t.0 = eqb-true _ _ m.0 in
     let q : pass auths h best (f ∷ rest) ≡ pass auths before None all = subst (λ (l : List FrameData). pass auths h best l ≡ pass auths before None all) e t.2 in
     let none : taken auths (next_hash h f) f.seq best ≡ best = not_taken auths (next_hash h f) f.seq wanted best (subst (λ (k : ℕ). Next k wanted auths) (sym s) t.3) lt in
-    (t.0 + 1, m.1, rw (gh, ← none) q, next_more t.0 wanted auths t.3)
+    (t.0 + 1, m.1, rw (gh, ← none) q, ahead_more auth_number t.0 wanted auths t.3)
 
 pub passing_end : (auths : List AuthData) (before : List ℕ) (all : List FrameData) (h : List ℕ) (best : Option (ℕ × ℕ)) (wanted : ℕ) (left : List FrameData) → left ≡ [] → Passing auths before all h best wanted left
     → (n : ℕ) → numbered n all ≡ true → best ≡ cover (map (marked before all) auths)

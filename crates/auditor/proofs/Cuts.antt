@@ -164,15 +164,6 @@ opens_upto m start before (f ∷ fs) e =
     go true p q = rw (p, few_first (start + 1) (nat_eq f.kind 2)) refl
     go false p q = rw (p, q) refl
 
-pub opens_numbered : (start : ℕ) (before : List ℕ) (fs : List FrameData) → opens start before fs ≡ true → numbered start fs ≡ true
-opens_numbered start before [] e = refl
-opens_numbered start before (f ∷ fs) e =
-    let p = and_true (nat_eq f.seq start && begins start before f.kind) (follow (start + 1) (flag (nat_eq f.kind 2)) fs) e in
-    let q = and_true (nat_eq f.seq start) (begins start before f.kind) p.0 in
-    let r = and_true (numbered (start + 1) fs && no_boot fs) (nat_le (flag (nat_eq f.kind 2) + snaps fs) 64) p.1 in
-    let t = and_true (numbered (start + 1) fs) (no_boot fs) r.0 in
-    rw (q.0, t.0) refl
-
 pub committed_upto : (s : State) (m : ℕ) (fs : List FrameData) → is_committed s (upto m fs) ≡ is_committed s fs
 unfolding is_committed
 committed_upto s m [] = refl

@@ -2,31 +2,19 @@
 use Rattle.std.proofs.Common.{◌≡◌, ℕ, ◌^◌, ◌<◌, ◌≤◌, Bool, true, false, cond, nat_le, List, length, Option, Some, None, refl, sym, ap, subst, ◌∙◌, arith, leb-true, All}
 use Rattle.avm_num.specs.Bytes.{IsBytes}
 use Rattle.avm_num.specs.Lists.{list_bytes}
-use Rattle.avm_num.proofs.Numbers.{bind_some}
 use Rattle.avm_model.specs.Entries.{numbered}
 use Rattle.avm_model.specs.Frame.{FitsFrame, frame_bytes}
 use Rattle.avm_model.specs.Auth.{AuthData, FitsAuth, auths_at}
 use Rattle.avm_model.specs.Head.{HeadData}
-use Rattle.avm_model.specs.Segment.{SegmentData, segment_bytes, segment_of, whole_segment_of}
+use Rattle.avm_model.specs.Segment.{SegmentData, segment_bytes, segment_of}
 use Rattle.avm_model.specs.Evidence.{EvidData}
 use Rattle.avm_model.specs.Audit.{Judged, auths_within, judged_of, entry_frames}
 use Rattle.avm_model.specs.Holds.{evidence}
 use Rattle.avm_model.specs.declared.judged.Verdict.{Verdict}
 use Rattle.avm_auth.proofs.AuthLaws.{auths_are}
 use Rattle.seg_file.proofs.SegmentLaws.{whole_read}
-use Rattle.auditor.proofs.Cuts.{opens_numbered}
+use Rattle.audit_stream.proofs.ReadParts.{read_is, opens_numbered}
 use Rattle.auditor.proofs.Segments.{Whole, whole_of}
-
-pub read_is : (segment auths : List ℕ) (d : Judged) → judged_of segment auths ≡ Some d → (whole_segment_of segment ≡ Some (d.segment, d.head)) × (auths_within auths ≡ Some d.auths)
-unfolding judged_of
-read_is segment auths d e =
-    let a = bind_some (whole_segment_of segment) _ d e in
-    let b = bind_some (auths_within auths) _ d a.2 in
-    let is : record { segment = a.0.0; head = a.0.1; auths = b.0 } ≡ d = same (record { segment = a.0.0; head = a.0.1; auths = b.0 }) d b.2 in
-    (a.1 ∙ ap (λ (j : Judged). Some (j.segment, j.head)) is, b.1 ∙ ap (λ (j : Judged). Some j.auths) is)
-  where
-    same : (x y : Judged) → Some x ≡ Some y → x ≡ y
-    same x y h = cc
 
 pub auths_in : (auths : List ℕ) (xs : List AuthData) → auths_within auths ≡ Some xs → (length auths ≤ 2 ^ 24) × (auths_at auths ≡ Some xs)
 unfolding auths_within

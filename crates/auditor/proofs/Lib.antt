@@ -1,9 +1,3 @@
-pub mod Maps
-pub mod Found
-pub mod RowLaws
-pub mod CaseLaws
-pub mod MarkLaws
-pub mod Accepts
 pub mod Cuts
 pub mod Segments
 pub mod Shown
@@ -12,9 +6,7 @@ pub mod Fits
 pub mod Judging
 pub mod Written
 pub mod Checks
-pub mod Pages
-pub mod Faults
-pub mod Acceptance
+pub mod Behind
 pub mod Replays
 pub mod Standing
 pub mod Covers

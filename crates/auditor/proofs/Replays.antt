@@ -38,7 +38,7 @@ parts_of bytes s h e =
     same : (x y : SegmentData × HeadData) → Some x ≡ Some y → x ≡ y
     same x y q = cc
 
-whole_is : (bytes : List ℕ) (s : SegmentData) (h : HeadData) → Some s ≡ segment_of bytes → head_of s.front.head ≡ Some h → whole_segment_of bytes ≡ Some (s, h)
+pub whole_is : (bytes : List ℕ) (s : SegmentData) (h : HeadData) → Some s ≡ segment_of bytes → head_of s.front.head ≡ Some h → whole_segment_of bytes ≡ Some (s, h)
 unfolding whole_segment_of
 whole_is bytes s h e p = rw (← e, p) refl
 

@@ -24,10 +24,11 @@ use Rattle.avm_model.specs.Audit.{Judged, snapshot, entry_frames, behind_first, 
 use Rattle.avm_model.specs.Holds.{DoubleHolds, ForkHolds, ReplayHolds, Holds, upto, bytes_upto, cut, with_two, evidence}
 use Rattle.avm_model.proofs.ReferenceLaws.{is_timed}
 use Rattle.avm_model.proofs.ReplayTheorems.{front_replays}
-use Rattle.auditor.proofs.Cuts.{top_upto, last_upto, numbered_upto, from_first, hash_upto, all_upto, committed_upto, opens_numbered, cut_split}
-use Rattle.auditor.proofs.RowLaws.{with_some, then_some, cond_some, first_pair_some, at_zero}
-use Rattle.auditor.proofs.CaseLaws.{double_case, fork_case, replay_case}
-use Rattle.auditor.proofs.MarkLaws.{same_refl, verified, Top, top_is, Conflict, conflict_is}
+use Rattle.auditor.proofs.Cuts.{top_upto, last_upto, numbered_upto, from_first, hash_upto, all_upto, committed_upto, cut_split}
+use Rattle.audit_stream.proofs.ReadParts.{opens_numbered}
+use Rattle.audit_stream.proofs.RowLaws.{with_some, then_some, cond_some, first_pair_some, at_zero}
+use Rattle.audit_stream.proofs.CaseLaws.{double_case, fork_case, replay_case}
+use Rattle.audit_stream.proofs.MarkLaws.{same_refl, verified, Top, top_is, Conflict, conflict_is}
 use Rattle.auditor.proofs.Segments.{Whole, cut_frames, cut_whole, frames_again}
 
 pub first_fork : (x y i j : ℕ) → Fork x y ≡ Fork i j → x ≡ i

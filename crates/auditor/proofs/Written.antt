@@ -16,9 +16,9 @@ use Rattle.evid_file.specs.declared.evidence.Evidence.{Evidence}
 use Rattle.evid_file.specs.Short.{IsShort}
 use Rattle.evid_file.specs.Views.{evidence_view}
 use Rattle.evid_file.proofs.EvidenceLaws.{evidence_again}
-use Rattle.auditor.proofs.RowLaws.{with_some, then_some, first_pair_some, at_zero}
-use Rattle.auditor.proofs.CaseLaws.{double_case, fork_case, replay_case}
-use Rattle.auditor.proofs.MarkLaws.{top_is, conflict_is}
+use Rattle.audit_stream.proofs.RowLaws.{with_some, then_some, first_pair_some, at_zero}
+use Rattle.audit_stream.proofs.CaseLaws.{double_case, fork_case, replay_case}
+use Rattle.audit_stream.proofs.MarkLaws.{top_is, conflict_is}
 use Rattle.auditor.proofs.Fits.{auth_fits, double_fits, fork_fits, replay_fits}
 use Rattle.auditor.proofs.Judging.{Known, known}
 use Rattle.auditor.proofs.Shown.{evidence_holds, first_fork, second_fork}

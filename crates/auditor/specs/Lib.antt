@@ -1,5 +1,3 @@
-pub mod Pairs
-pub mod Table
-pub mod Cases
+pub mod Hashes
 pub mod Tests
 pub mod Covering

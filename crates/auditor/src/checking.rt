@@ -4,11 +4,11 @@ ghost use Rattle.avm_model.specs.Frame.{FrameData, frames_of};
 ghost use Rattle.avm_model.specs.Audit.{last_number as last_number_lem};
 ghost use Rattle.avm_model.specs.Holds.{DoubleHolds, ForkHolds};
 ghost use Rattle.avm_auth.specs.Views.{auth_view};
-ghost use Rattle.auditor.specs.Table.{bytes_of};
+ghost use Rattle.auditor.specs.Hashes.{bytes_of};
 ghost use Rattle.auditor.specs.Tests.{run_on, is_hash, double_test, fork_test};
 
 use crate::showing::hash_at;
-use crate::valid::{is_same, is_valid};
+use audit_stream::{is_same, is_valid};
 use avm_auth::Auth;
 use avm_model::Digest;
 use log_chain::chain;

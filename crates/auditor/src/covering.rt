@@ -5,9 +5,11 @@ ghost use Rattle.avm_model.specs.Basics.{first_at, or_else};
 ghost use Rattle.avm_model.specs.Entries.{numbered};
 ghost use Rattle.avm_model.specs.Frame.{frames_of};
 ghost use Rattle.avm_model.specs.Marks.{marked, cover};
-ghost use Rattle.auditor.specs.Covering.{is_at, least_above};
+ghost use Rattle.avm_model.specs.Auth.{AuthData};
+ghost use Rattle.audit_stream.specs.Numbers.{least_above};
+ghost use Rattle.auditor.specs.Covering.{is_at};
 
-use crate::valid::is_same;
+use audit_stream::is_same;
 use avm_auth::Auths;
 use avm_model::Digest;
 use log_chain::next;
@@ -30,7 +32,7 @@ fn match_at(auths: Auths<'_>, seq: u64, hash: &Digest) -> Option<u32>
 
 /// The least number above a number, or the greatest of its type where there is none.
 fn number_above(auths: Auths<'_>, seq: u64) -> u64
-    ensures { result ≡ least_above seq (2 ^ 64 - 1) auths.entry }
+    ensures { result ≡ least_above (λ (a : AuthData). a.seq) seq (2 ^ 64 - 1) auths.entry }
 {
     let mut least = u64::MAX;
     for auth in auths {

@@ -14,7 +14,7 @@ ghost use Rattle.seg_file.specs.Views.{segment_view};
 
 use crate::checking::{double_stands, fork_stands, last_number};
 use crate::replaying::replayed;
-use crate::valid::{is_same, is_valid};
+use audit_stream::{is_same, is_valid};
 use avm_auth::Auth;
 use avm_num::NoMemory;
 use evid_file::{Evidence, read_evidence};

@@ -11,7 +11,7 @@ ghost use Rattle.std.specs.Option.{option_and_then};
 ghost use Rattle.avm_model.specs.Holds.{upto, with_two};
 ghost use Rattle.avm_auth.specs.Views.{auth_view};
 ghost use Rattle.evid_file.specs.Views.{evidence_view};
-ghost use Rattle.auditor.specs.Table.{bytes_of};
+ghost use Rattle.auditor.specs.Hashes.{bytes_of};
 
 use crate::covering::cover_of_all;
 use avm_auth::{Auth, Auths};

@@ -6,6 +6,3 @@ mod auths;
 
 pub use auth::{Auth, put_auth, read_auth, signed_text};
 pub use auths::{Auths, read_auths};
-
-#[cfg(test)]
-mod tests;

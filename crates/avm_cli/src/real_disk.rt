@@ -93,6 +93,8 @@ impl Disk for RealDisk {
 
     ghost only_now = { λ _ _ _. tt };
 
+    ghost tells_bytes = { λ _. tt };
+
     fn len(&mut self) -> Result<u64, Failed> {
         match file_len(&self.file) {
             Ok(n) => Ok(n),
@@ -144,5 +146,24 @@ mod tests {
         assert!(rt; none.write_at(0, b"a").is_err());
         assert!(rt; none.sync().is_err());
         assert_eq!(rt; none.faults, 2);
+    }
+
+    /// A file that is opened for reading alone, and a device that is full.
+    #[test]
+    fn a_disk_that_takes_no_bytes(rt: HostRuntime) {
+        let mut buf = [9u8; 8];
+        assert!(rt; RealDisk::open(&rt, "r", true).write_at(0, b"hello").is_ok());
+        let mut kept = RealDisk {
+            file: OpenOptions::new().read(true).open(&rt, "r").ok(),
+            faults: 0,
+        };
+        assert!(rt; matches!(kept.read_at(0, &mut buf), Ok(5)));
+        assert!(rt; kept.write_at(0, b"J").is_err());
+        assert!(rt; kept.write_at(5, b"!").is_err());
+        assert!(rt; matches!(kept.len(), Ok(5)));
+        assert_eq!(rt; kept.faults, 2);
+        let mut full = RealDisk::open(&rt, "/dev/full", false);
+        assert!(rt; full.write_at(0, b"a").is_err());
+        assert_eq!(rt; full.faults, 1);
     }
 }

@@ -1,12 +1,10 @@
 //! Every opcode with its functions, and guests that print, count, read and ask, on both machines.
 
-use avm_model::{Inst, NotTaken};
-use avm_plain::{
-    Devices as PlainDevices, Input as PlainInput, Output, State, asks, can_step, refusal, step,
-    take,
-};
+use crate::both::{give_both, same_state, step_both};
+use avm_model::Inst;
+use avm_plain::{Devices as PlainDevices, Input as PlainInput, State};
 use guest_dev::Devices;
-use guest_machine::{Input, Machine, Outs};
+use guest_machine::{Input, Machine};
 use rv32_mem::Ram;
 use std::alloc::{AllocError, Global};
 use std::test::Fail;
@@ -76,84 +74,8 @@ fn fast(alloc: Global, words: &[u32]) -> Option<Machine> {
 /// The same with the RAM of the fast one.
 fn plain(alloc: Global, machine: &Machine) -> Result<State, AllocError> {
     let ram = Vec::from_slice(alloc, machine.ram().bytes())?;
-    let devices = PlainDevices::fresh(alloc, 0, Vec::new(alloc))?;
+    let devices = PlainDevices::fresh(alloc, 1, 0, Vec::new(alloc))?;
     Ok(State::initial(devices, ram, 1024, 0x8000_0000))
-}
-
-fn same_state(machine: &Machine, state: &State) -> bool {
-    machine.hart().x == state.hart.x
-        && machine.hart().pc == state.hart.pc
-        && machine.count() == state.count
-        && machine.status() == state.status
-        && machine.asks() == asks(state)
-        && machine.can_step() == can_step(state)
-        && machine.ram().bytes() == state.ram.as_slice()
-        && machine.devices().line() == state.devices.line.as_slice()
-}
-
-/// Whether the step put this output out.
-fn shows(outs: &Outs, output: &Output) -> bool {
-    match output {
-        Output::Out(bytes) => outs.line.bytes.get(..outs.line.len as usize)
-            == Some(bytes.as_slice()),
-        Output::Send { peer, number, .. } => match outs.sent {
-            Some(sent) => sent.peer == *peer && sent.number == *number,
-            None => false,
-        },
-        Output::Halt { cause, value } => match outs.halt {
-            Some(halt) => halt.0 == *cause && halt.1 == *value,
-            None => false,
-        },
-        Output::Snap => outs.snap,
-    }
-}
-
-/// Whether the step put out these and no more.
-fn same_outs(outs: &Outs, plain: &[Output]) -> bool {
-    for output in plain {
-        if !shows(outs, output) {
-            return false;
-        }
-    }
-    let line = (outs.line.len > 0) as usize;
-    let sent = outs.sent.is_some() as usize;
-    let halt = outs.halt.is_some() as usize;
-    plain.len() == line + sent + halt + outs.snap as usize
-}
-
-/// Makes one step on both machines, where both can make one, and tells whether they agree.
-fn step_both(
-    alloc: Global,
-    machine: &mut Machine,
-    state: State,
-) -> Result<Option<State>, AllocError> {
-    if machine.count() > 10_000 || state.count > 10_000 || !same_state(machine, &state) {
-        return Ok(None);
-    }
-    match machine.try_step() {
-        None => Ok(Some(state)),
-        Some(outs) => {
-            let after = step(alloc, &state)?;
-            if !same_outs(&outs, after.outs.as_slice()) {
-                return Ok(None);
-            }
-            Ok(Some(after.state))
-        }
-    }
-}
-
-/// Gives an input to both machines, and tells whether both take it or refuse it for one reason.
-fn give_both(
-    alloc: Global,
-    answer: Result<(), NotTaken>,
-    state: State,
-    input: PlainInput,
-) -> Result<Option<State>, AllocError> {
-    match (refusal(&state, &input), answer) {
-        (None, Ok(())) => Ok(Some(take(alloc, &state, &input)?)),
-        (Some(why), Err(other)) => Ok(if why == other { Some(state) } else { None }),
-        _ => Ok(None),
-    }
 }
 
 /// Runs the words on both machines for some steps, with console bytes at first and a clock before each step.

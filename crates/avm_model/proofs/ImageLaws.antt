@@ -3,9 +3,11 @@ use Rattle.std.proofs.Common.{◌≡◌, ℕ, true, not, nat_eq, List, [], ◌�
 use Rattle.std.specs.Str.{bytes_eq}
 use Rattle.std.specs.Cmp.Lexicographic.{bytes_decides}
 use Rattle.std.proofs.lemmas.Bool.{and_parts, and_from, eqb-true, eq-eqb}
-use Rattle.avm_model.specs.Device.{DeviceState, idle, fresh}
+use Rattle.avm_model.specs.Bell.{bell_of, version_of, idle_bell}
+use Rattle.avm_model.specs.Device.{DeviceState, idle, fresh_with}
 use Rattle.avm_model.specs.Machine.{State, is_running}
-use Rattle.avm_model.specs.ImageState.{Image, Gives, Refuses, unused, IsBooted, IsBootedFrom, IsImageOf, are_unused, is_fresh, is_booted, is_booted_from, is_image_of}
+use Rattle.avm_model.specs.ImageState.{Image, Gives, Refuses, unused, IsBooted, IsBootedFrom, IsImageOf, are_unused, is_new, is_fresh, is_booted, is_booted_from, is_image_of}
+use Rattle.avm_model.specs.declared.Bell.{Bell}
 use Rattle.avm_model.specs.declared.Peer.{Peer}
 use Rattle.avm_model.specs.declared.Status.{Status}
 use Rattle.avm_model.specs.declared.Status.TheVariants.{Running, Waiting, Halted}
@@ -43,9 +45,21 @@ unused_to (p ∷ ps) = unused_to ps
 
 -- ---- devices
 
-fresh_from : (d : DeviceState) → is_fresh d ≡ true → d ≡ fresh d.own (map unused d.peers)
+new_from : (o : Option Bell) → is_new o ≡ true → o ≡ bell_of (version_of o)
+new_from None e = refl
+new_from (Some b) e =
+    let p = and_parts _ (nat_eq b.state idle_bell) e in
+    let q = and_parts (nat_eq b.vector 0) (nat_eq b.saved 0) p.0 in
+    λ i. Some (record { vector = eqb-true b.vector 0 q.0 i; saved = eqb-true b.saved 0 q.1 i; state = eqb-true b.state idle_bell p.1 i })
+
+new_to : (o : Option Bell) → is_new (bell_of (version_of o)) ≡ true
+new_to None = refl
+new_to (Some b) = refl
+
+fresh_from : (d : DeviceState) → is_fresh d ≡ true → d ≡ fresh_with (bell_of (version_of d.bell)) d.own (map unused d.peers)
 fresh_from d e =
-    let a = and_parts _ (are_unused d.peers) e in
+    let m = and_parts _ (is_new d.bell) e in
+    let a = and_parts _ (are_unused d.peers) m.0 in
     let b = and_parts _ (bytes_eq d.window (replicate 1024 0)) a.0 in
     let c = and_parts _ (nat_eq d.tx_result 0) b.0 in
     let f = and_parts _ (nat_eq d.tx_len 0) c.0 in
@@ -66,10 +80,11 @@ fresh_from d e =
       tx_len = eqb-true d.tx_len 0 f.1 i;
       tx_result = eqb-true d.tx_result 0 c.1 i;
       window = (bytes_decides d.window (replicate 1024 0)).0 b.1 i;
+      bell = new_from d.bell m.1 i;
     }
 
-fresh_to : (own : ℕ) (ps : List Peer) → is_fresh (fresh own (map unused ps)) ≡ true
-fresh_to own ps = and_from _ _ ((bytes_decides (replicate 1024 0) (replicate 1024 0)).1 refl) (unused_to ps)
+fresh_to : (o : Option Bell) (own : ℕ) (ps : List Peer) → is_fresh (fresh_with (bell_of (version_of o)) own (map unused ps)) ≡ true
+fresh_to o own ps = and_from _ _ (and_from _ _ ((bytes_decides (replicate 1024 0) (replicate 1024 0)).1 refl) (unused_to ps)) (new_to o)
 
 -- ---- the state
 
@@ -96,7 +111,7 @@ booted_to s ram entry e =
     let held = (bytes_decides s.ram ram).1 (ap (λ (t : State). t.ram) e) in
     let count = eq-eqb s.count 0 (ap (λ (t : State). t.count) e) in
     let runs = ap (λ (t : State). is_running t.status) e in
-    let devices = subst (λ (d : DeviceState). is_fresh d ≡ true) (sym (ap (λ (t : State). t.devices) e)) (fresh_to s.devices.own s.devices.peers) in
+    let devices = subst (λ (d : DeviceState). is_fresh d ≡ true) (sym (ap (λ (t : State). t.devices) e)) (fresh_to s.devices.bell s.devices.own s.devices.peers) in
     and_from _ _ (and_from _ _ (and_from _ _ (and_from _ _ (and_from _ _ count runs) pc) x) devices) held
 
 test_from : (s : State) (i : Image) → is_booted_from s i ≡ true → IsBootedFrom s i

@@ -18,3 +18,10 @@ pub mod ReferenceLaws
 pub mod ReferenceShort
 pub mod PeerLaws
 pub mod ImageLaws
+pub mod Covers
+pub mod Hashes
+pub mod HeadBounds
+pub mod HeadReads
+pub mod HeadLength
+pub mod SegmentPages
+pub mod VersionLaws

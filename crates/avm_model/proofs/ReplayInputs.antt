@@ -1,5 +1,5 @@
 -- Which inputs don't replay.
-use Rattle.std.proofs.Common.{◌≡◌, ℕ, ◌+◌, ◌-◌, ◌≤◌, ◌<◌, Bool, true, false, cond, eqb, List, [], ◌∷◌, ◌++◌, Option, Some, None, refl, ap, ◌∙◌, arith, ne_eqb}
+use Rattle.std.proofs.Common.{◌≡◌, ℕ, ◌-◌, ◌≤◌, ◌<◌, Bool, true, false, cond, eqb, List, [], ◌∷◌, ◌++◌, Option, Some, None, refl, ap, ◌∙◌, arith, ne_eqb}
 use Rattle.avm_model.specs.Timed.{Timed, IsTimed, Entry, given, takes}
 use Rattle.avm_model.specs.Rerun.{Stand, Stands, Replays, moved}
 use Rattle.avm_model.specs.Judge.{judge, settle, settled}

@@ -1,5 +1,5 @@
 -- What a recorder makes replays.
-use Rattle.std.proofs.Common.{◌≡◌, ℕ, zero, suc, ◌+◌, ◌-◌, ◌≤◌, List, [], ◌∷◌, ◌++◌, map, Option, Some, None, refl, ap, ◌∙◌, arith}
+use Rattle.std.proofs.Common.{◌≡◌, ℕ, zero, suc, ◌-◌, ◌≤◌, List, [], ◌∷◌, ◌++◌, map, Option, Some, None, refl, ap, ◌∙◌, arith}
 use Rattle.avm_model.specs.Timed.{Timed, IsTimed, Entry, given, made, takes}
 use Rattle.avm_model.specs.Rerun.{start, Stands, moved, moved_by, moved_out}
 use Rattle.avm_model.specs.Judge.{judge, judge_all, settle, settled}

@@ -6,9 +6,10 @@ use Rattle.avm_model.specs.Hart.{HartState, reg}
 use Rattle.avm_model.specs.Decode.{decoded}
 use Rattle.avm_model.specs.Values.{bytes_of, load_width, store_width, is_taken}
 use Rattle.avm_model.specs.Memory.{ram_load}
-use Rattle.avm_model.specs.Device.{DeviceState, device_load, load_console, load_clock}
+use Rattle.avm_model.specs.Device.{DeviceState, device_load, load_console, load_clock, load_vector, load_saved}
 use Rattle.avm_model.specs.Exec.{Loaded, Gave, NotMapped, NoClock, Waits, Stops, jump, branch, after_load, load, after_store, store, executed, run_inst, run_word}
 use Rattle.avm_model.specs.Machine.{State, Board, board, flat, board_of, board_load, load_from, load_beyond, with_devices, exec_flat, can_step, is_running, loads_clock, next_inst}
+use Rattle.avm_model.specs.declared.Bell.{Bell}
 use Rattle.avm_model.specs.declared.Width.{Width}
 use Rattle.avm_model.specs.declared.Width.TheVariants.{Byte, Half, Word}
 use Rattle.avm_model.specs.declared.LoadOp.{LoadOp}
@@ -37,6 +38,14 @@ console_gave : (d : DeviceState) (o : Option ℕ) → load_console d o ≡ NoClo
 console_gave d None e = absurd cc
 console_gave d (Some byte) e = absurd cc
 
+vector_gave : (d : DeviceState) (o : Option Bell) → load_vector d o ≡ NoClock → ⊥
+vector_gave d None e = absurd cc
+vector_gave d (Some b) e = absurd cc
+
+saved_gave : (d : DeviceState) (o : Option Bell) → load_saved d o ≡ NoClock → ⊥
+saved_gave d None e = absurd cc
+saved_gave d (Some b) e = absurd cc
+
 clock_none : (d : DeviceState) (o : Option ℕ) → load_clock d o ≡ NoClock → o ≡ None
 clock_none d None e = refl
 clock_none d (Some value) e = absurd cc
@@ -47,7 +56,7 @@ nothing l p e = absurd cc
 -- only CLK_LO without a pending clock asks
 device_asks : (d : DeviceState) (address : ℕ) → device_load d address ≡ NoClock → (address ≡ 0x10000008) × (d.clock ≡ None)
 device_asks d address e =
-    let h = first (address == 0x10000008) _ _ _ (neither (address == 0x1000000c) _ _ _ (gave _ d) (neither (address == 0x10000014) _ _ _ (gave _ d) (neither (address == 0x10000018) _ _ _ (gave _ d) (neither (address == 0x10000020) _ _ _ (gave _ d) (neither (address == 0x10000024) _ _ _ (gave _ d) (neither (address == 0x1000002c) _ _ _ (gave _ d) (neither (address % 4 == 0 && nat_le 0x10001000 address && nat_lt address 0x10001400) _ _ _ (gave _ d) (neither (address % 4 == 0 && nat_le 0x10002000 address && nat_lt address 0x10002400) _ _ _ (gave _ d) (nothing _ refl))))))))) (other (address == 0x10000004) _ _ _ (console_gave d (slice_get d.console 0)) e) in
+    let h = first (address == 0x10000008) _ _ _ (neither (address == 0x1000000c) _ _ _ (gave _ d) (neither (address == 0x10000014) _ _ _ (gave _ d) (neither (address == 0x10000018) _ _ _ (gave _ d) (neither (address == 0x10000020) _ _ _ (gave _ d) (neither (address == 0x10000024) _ _ _ (gave _ d) (neither (address == 0x1000002c) _ _ _ (gave _ d) (neither (address == 0x10000030) _ _ _ (vector_gave d d.bell) (neither (address == 0x10000034) _ _ _ (saved_gave d d.bell) (neither (address % 4 == 0 && nat_le 0x10001000 address && nat_lt address 0x10001400) _ _ _ (gave _ d) (neither (address % 4 == 0 && nat_le 0x10002000 address && nat_lt address 0x10002400) _ _ _ (gave _ d) (nothing _ refl))))))))))) (other (address == 0x10000004) _ _ _ (console_gave d (slice_get d.console 0)) e) in
     (eqb-true _ _ h.0, clock_none d d.clock h.1)
 
 beyond_asks : (b : Board) (address : ℕ) (w : Width) → load_beyond b address w ≡ NoClock → (w ≡ Word) × (address ≡ 0x10000008) × (b.devices.clock ≡ None)

@@ -1,21 +1,16 @@
 -- The bounds of a head (docs/FORMATS.md, Head).
-use Rattle.std.specs.Prelude.{ℕ, ◌+◌, ◌%◌, ◌^◌, ◌==◌, ◌&&◌, ◌||◌, not, nat_le, nat_lt, Bool, true, false, List, [], ◌∷◌, length, take, drop}
+use Rattle.std.specs.Prelude.{ℕ, ◌+◌, ◌%◌, ◌^◌, ◌==◌, ◌&&◌, ◌||◌, not, nat_le, nat_lt, Bool, true, false, List, [], ◌∷◌, length}
 use Rattle.std.specs.List.{list_any}
-use Rattle.std.specs.Int.{w32, from_be_bytes}
 use Rattle.avm_model.specs.Memory.{is_page_count}
 use Rattle.avm_model.specs.Device.{MessageState}
 pub use Rattle.avm_model.specs.Memory.{is_page_count}
+use Rattle.avm_model.specs.Bell.{is_bell}
+use Rattle.avm_model.specs.LmsValid.{is_key}
+pub use Rattle.avm_model.specs.LmsValid.{is_key}
 use Rattle.avm_model.specs.declared.Peer.{Peer}
 use Rattle.avm_model.specs.declared.Status.{Status}
 use Rattle.avm_model.specs.declared.Status.TheVariants.{Running, Waiting, Halted}
 use Rattle.avm_model.specs.Head.{FrontData, HartData, QueuesData, HeadData}
-
--- a public key's types (RFC 8554): LMS 5 to 9, OTS 1 to 4
-abbrev pub is_key : List ℕ → Bool
-is_key key =
-    let lms = from_be_bytes w32 (take 4 key) in
-    let ots = from_be_bytes w32 (take 4 (drop 4 key)) in
-    nat_le 5 lms && nat_le lms 9 && nat_le 1 ots && nat_le ots 4
 
 -- at most the last message sent is without its acknowledgement
 abbrev pub is_row : ℕ → Peer → Bool
@@ -66,4 +61,4 @@ are_queues peers q =
 unfoldable pub is_head : HeadData → Bool
 is_head h =
     is_front h.front && is_hart h.hart && none_past h.hart.count h.front.peers && are_queues h.front.peers h.queues
-    && suits h.hart.status h.queues && nat_le h.transmit.result 3
+    && suits h.hart.status h.queues && nat_le h.transmit.result 3 && is_bell h.bell

@@ -1,6 +1,7 @@
 -- What the devices keep between two accesses: the bounds of a head (docs/FORMATS.md, Head) that speak of them. The line alone
 -- may be longer than in a head, since a line of 128 bytes is emitted at the end of its step.
 use Rattle.std.specs.Prelude.{ℕ, ◌-◌, ◌^◌, ◌<◌, ◌≤◌, List, length, IsTrue}
+use Rattle.avm_model.specs.Bell.{is_bell}
 use Rattle.avm_model.specs.Device.{DeviceState, MessageState}
 use Rattle.avm_model.specs.Bounds.{are_rows, none_past, are_messages}
 use Rattle.avm_model.specs.declared.Peer.{Peer}
@@ -18,3 +19,4 @@ pub record IsDevices (d : DeviceState) : Type 0 where
   pub console : length d.console ≤ 1024
   pub messages : length d.messages ≤ 8
   pub result : d.tx_result ≤ 3
+  pub bell : IsTrue (is_bell d.bell)

@@ -1,8 +1,10 @@
 -- The head of a snapshot: its data, and the one spelling of them (docs/FORMATS.md, Head).
-use Rattle.std.specs.Prelude.{◌≡◌, ℕ, ◌^◌, ◌<◌, List, ◌++◌, length}
+use Rattle.std.specs.Prelude.{◌≡◌, ℕ, ◌^◌, ◌<◌, List, [], ◌++◌, length, Option, Some, None}
 use Rattle.std.specs.List.{AllByRecursion}
 use Rattle.std.specs.Int.{w16, w32, w64}
+use Rattle.avm_model.specs.Bell.{version_of}
 use Rattle.avm_model.specs.Device.{MessageState}
+use Rattle.avm_model.specs.declared.Bell.{Bell}
 use Rattle.avm_model.specs.declared.Peer.{Peer}
 use Rattle.avm_model.specs.declared.Status.{Status}
 use Rattle.avm_model.specs.declared.Status.TheVariants.{Running, Waiting, Halted}
@@ -36,11 +38,13 @@ pub record TransmitData : Type 0 where
   pub result : ℕ
   pub window : List ℕ
 
+-- and the bell, in version 2 alone
 pub record HeadData : Type 0 where
   pub front : FrontData
   pub hart : HartData
   pub queues : QueuesData
   pub transmit : TransmitData
+  pub bell : Option Bell
 
 -- ---- the spelling
 
@@ -56,7 +60,7 @@ abbrev pub message_bytes : MessageState → List ℕ
 message_bytes m = one m.peer ++ sized_bytes (be w16) m.payload
 
 unfoldable pub front_bytes : FrontData → List ℕ
-front_bytes f = one 1 ++ one f.own ++ be w32 f.snap ++ be w32 f.pages ++ many_bytes one peer_bytes f.peers
+front_bytes f = one f.own ++ be w32 f.snap ++ be w32 f.pages ++ many_bytes one peer_bytes f.peers
 
 unfoldable pub hart_bytes : HartData → List ℕ
 hart_bytes h = list_bytes (be w32) h.x ++ be w32 h.pc ++ be w64 h.count ++ one (status_code h.status)
@@ -67,8 +71,18 @@ queues_bytes q = be w32 q.latch ++ sized_bytes one q.line ++ sized_bytes (be w16
 unfoldable pub transmit_bytes : TransmitData → List ℕ
 transmit_bytes t = be w32 t.peer ++ be w32 t.len ++ be w32 t.result ++ t.window
 
+unfoldable pub words_bytes : Bell → List ℕ
+words_bytes b = be w32 b.vector ++ be w32 b.saved ++ one b.state
+
+unfoldable pub bell_bytes : Option Bell → List ℕ
+bell_bytes None = []
+bell_bytes (Some b) = words_bytes b
+
+-- the version stands in front, the bell at the end
 unfoldable pub head_bytes : HeadData → List ℕ
-head_bytes h = front_bytes h.front ++ hart_bytes h.hart ++ queues_bytes h.queues ++ transmit_bytes h.transmit
+head_bytes h =
+    one (version_of h.bell) ++ front_bytes h.front ++ hart_bytes h.hart ++ queues_bytes h.queues ++ transmit_bytes h.transmit
+    ++ bell_bytes h.bell
 
 -- ---- what the fields can hold
 
@@ -103,8 +117,17 @@ pub record FitsTransmit (t : TransmitData) : Type 0 where
   pub result : t.result < 2 ^ 32
   pub window : length t.window ≡ 1024
 
+pub record FitsWords (b : Bell) : Type 0 where
+  pub vector : b.vector < 2 ^ 32
+  pub saved : b.saved < 2 ^ 32
+
+abbrev pub FitsBell : Option Bell → Type 0
+FitsBell None = Unit {0}
+FitsBell (Some b) = FitsWords b
+
 pub record FitsHead (h : HeadData) : Type 0 where
   pub front : FitsFront h.front
   pub hart : FitsHart h.hart
   pub queues : FitsQueues h.queues
   pub transmit : FitsTransmit h.transmit
+  pub bell : FitsBell h.bell

@@ -1,9 +1,10 @@
 -- Reading a head from bytes (docs/FORMATS.md, Head).
-use Rattle.std.specs.Prelude.{ℕ, ◌==◌, ◌&&◌, List, length, Option, Some, None, if◌then◌else◌}
+use Rattle.std.specs.Prelude.{ℕ, ◌==◌, ◌&&◌, ◌||◌, List, length, Option, Some, None, if◌then◌else◌}
 use Rattle.std.specs.Int.{w16, w32, w64}
 use Rattle.avm_num.specs.Bytes.{◌>>=◌, number_at, piece_at, byte_at, kept}
-use Rattle.avm_num.specs.Lists.{list_at, exact_at, sized_at, many_at}
+use Rattle.avm_num.specs.Lists.{list_at, sized_at, many_at}
 use Rattle.avm_model.specs.Device.{MessageState}
+use Rattle.avm_model.specs.declared.Bell.{Bell}
 use Rattle.avm_model.specs.declared.Peer.{Peer}
 use Rattle.avm_model.specs.declared.Status.{Status}
 use Rattle.avm_model.specs.declared.Status.TheVariants.{Running, Waiting, Halted}
@@ -36,8 +37,7 @@ message_at bytes = do
 
 unfoldable pub front_at : List ℕ → Option (FrontData × List ℕ)
 front_at bytes = do
-  version ← exact_at byte_at 1 bytes
-  own ← byte_at version.1
+  own ← byte_at bytes
   snap ← number_at w32 own.1
   pages ← number_at w32 snap.1
   peers ← many_at byte_at peer_at pages.1
@@ -67,14 +67,33 @@ transmit_at bytes = do
   window ← piece_at 1024 result.1
   Some (record { peer = peer.0; len = len.0; result = result.0; window = window.0 }, window.1)
 
--- the four parts
+-- 1 or 2
+unfoldable pub version_at : List ℕ → Option (ℕ × List ℕ)
+version_at bytes = do
+  version ← byte_at bytes
+  kept (version.0 == 1 || version.0 == 2) version
+
+unfoldable pub words_at : List ℕ → Option (Bell × List ℕ)
+words_at bytes = do
+  vector ← number_at w32 bytes
+  saved ← number_at w32 vector.1
+  state ← byte_at saved.1
+  Some (record { vector = vector.0; saved = saved.0; state = state.0 }, state.1)
+
+-- the bell of a version, which version 1 doesn't have
+unfoldable pub bell_at : ℕ → List ℕ → Option (Option Bell × List ℕ)
+bell_at version bytes = if version == 2 then (words_at bytes >>= λ b. Some (Some b.0, b.1)) else Some (None, bytes)
+
+-- the parts
 unfoldable pub parts_at : List ℕ → Option (HeadData × List ℕ)
 parts_at bytes = do
-  front ← front_at bytes
+  version ← version_at bytes
+  front ← front_at version.1
   hart ← hart_at front.1
   queues ← queues_at hart.1
   transmit ← transmit_at queues.1
-  Some (record { front = front.0; hart = hart.0; queues = queues.0; transmit = transmit.0 }, transmit.1)
+  bell ← bell_at version.0 transmit.1
+  Some (record { front = front.0; hart = hart.0; queues = queues.0; transmit = transmit.0; bell = bell.0 }, bell.1)
 
 -- within the bounds, and nothing behind
 unfoldable pub head_of : List ℕ → Option HeadData

@@ -20,6 +20,7 @@ state_of h ram = record {
     tx_len = h.transmit.len;
     tx_result = h.transmit.result;
     window = h.transmit.window;
+    bell = h.bell;
   };
   snap = h.front.snap;
   count = h.hart.count;
@@ -33,4 +34,5 @@ data_of s = record {
   hart = record { x = drop 1 s.hart.x; pc = s.hart.pc; count = s.count; status = s.status };
   queues = record { latch = s.devices.latch; line = s.devices.line; console = s.devices.console; messages = s.devices.messages };
   transmit = record { peer = s.devices.tx_peer; len = s.devices.tx_len; result = s.devices.tx_result; window = s.devices.window };
+  bell = s.devices.bell;
 }

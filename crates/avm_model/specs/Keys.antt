@@ -5,9 +5,9 @@ use Rattle.std.specs.Str.{bytes_eq}
 use Rattle.avm_num.specs.Bytes.{kept}
 use Rattle.avm_num.specs.Lists.{be}
 use Rattle.avm_model.specs.LmsTree.{public_key, signature}
-use Rattle.avm_model.specs.LmsValid.{number, has_types}
+use Rattle.avm_model.specs.LmsValid.{number, is_key}
 
--- a private key: its LMS and LM-OTS types, I and SEED
+-- a private key: its LMS and LM-OTS types, I and SEED (RFC 8554, section 5.2 and appendix A)
 pub record KeyData : Type 0 where
   pub lms : ℕ
   pub ots : ℕ
@@ -62,4 +62,4 @@ IsKeyOf None bytes = (k : KeyData) → FitsKey k → bytes ≡ key_bytes k → �
 
 -- a public key file: the 56 bytes, with types of the tables
 unfoldable pub public_file : List ℕ → Bool
-public_file bytes = (length bytes == 56) && has_types (number bytes 0) (number bytes 4)
+public_file bytes = (length bytes == 56) && is_key bytes

@@ -5,6 +5,7 @@ pub mod Decode
 pub mod Hart
 pub mod Values
 pub mod Exec
+pub mod Bell
 pub mod Memory
 pub mod Device
 pub mod Machine
@@ -22,6 +23,7 @@ pub mod LmsOts
 pub mod LmsTree
 pub mod LmsValid
 pub mod Head
+pub mod Sizes
 pub mod Bounds
 pub mod HeadReading
 pub mod HeadState
@@ -35,9 +37,11 @@ pub mod Chain
 pub mod Auth
 pub mod Entries
 pub mod Segment
+pub mod SegmentPages
 pub mod Words
 pub mod Job
 pub mod Marks
+pub mod Cover
 pub mod Verdict
 pub mod Evidence
 pub mod Audit

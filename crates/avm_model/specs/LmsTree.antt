@@ -46,7 +46,7 @@ climb id (suc n) r x beyond = climb id n (r / 2) (above id r x (take 32 beyond))
 abbrev pub public_key : ℕ → ℕ → List ℕ → List ℕ → List ℕ
 public_key lms ots id seed = to_be_bytes w32 lms ++ (to_be_bytes w32 ots ++ (id ++ node lms ots id seed 1))
 
--- u32str(q) || lmots_signature || u32str(type) || path[0] || .. || path[h-1] (section 5.4.1, algorithm 5)
+-- u32str(q) || lmots_signature || u32str(type) || path[0] || .. || path[h-1] (sections 5.4 and 5.4.1)
 abbrev pub signature : ℕ → ℕ → List ℕ → List ℕ → ℕ → List ℕ → List ℕ
 signature lms ots id seed q text =
     to_be_bytes w32 q ++ (ots_signature ots id q seed text

@@ -37,6 +37,10 @@ pub record Valid (key text sig : List ℕ) : Type 0 where
 unfoldable pub has_types : ℕ → ℕ → Bool
 has_types lms ots = nat_le 5 lms && nat_le lms 9 && nat_le 1 ots && nat_le ots 4
 
+-- a public key's types (section 5.3)
+abbrev pub is_key : List ℕ → Bool
+is_key key = has_types (number key 0) (number key 4)
+
 -- the test of `IsValid`
 unfoldable pub is_valid : ℕ → ℕ → List ℕ → List ℕ → List ℕ → List ℕ → Bool
 is_valid lms ots id root text sig =

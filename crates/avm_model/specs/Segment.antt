@@ -1,5 +1,5 @@
 -- A segment: its data, the one spelling, and reading it (docs/FORMATS.md, Segment).
-use Rattle.std.specs.Prelude.{◌≡◌, ℕ, ◌*◌, ◌^◌, ◌<◌, ◌≤◌, ◌&&◌, nat_le, Bool, true, List, ◌++◌, length, drop, Option, Some, is_some}
+use Rattle.std.specs.Prelude.{◌≡◌, ℕ, ◌*◌, ◌^◌, ◌<◌, ◌≤◌, ◌&&◌, nat_le, true, List, ◌++◌, length, drop, Option, Some}
 use Rattle.std.specs.Int.{w32, w64}
 use Rattle.avm_num.specs.Bytes.{◌>>=◌, number_at, piece_at, byte_at, kept}
 use Rattle.avm_num.specs.Lists.{exact_at, sized_at, sized_bytes, be, one}
@@ -68,7 +68,3 @@ whole_segment_of bytes = do
   s ← segment_of bytes
   h ← head_of s.front.head
   Some (s, h)
-
--- the bytes are a segment
-abbrev pub is_segment : List ℕ → Bool
-is_segment bytes = is_some (whole_segment_of bytes)

@@ -5,6 +5,9 @@ ghost use Rattle.std.specs.Prelude.{◌≡◌, ℕ, ◌<◌, ◌≤◌, ◌⊎�
 ghost use Rattle.avm_model.specs.Timed.{Timed, IsTimed, Entry, given, made, takes};
 ghost use Rattle.avm_model.specs.Rerun.{Stand, Stands, start, rerun, outputs, moved, NotTaken, Replays, IsFirstFault, IsFault};
 ghost use Rattle.avm_model.specs.Judge.{judge, judge_all, settle};
+ghost use Rattle.avm_model.specs.Device.{DeviceState, device_load, device_store};
+ghost use Rattle.avm_model.specs.Exec.{NotMapped};
+ghost use Rattle.avm_model.specs.Input.{InputState, Clock, Take};
 ghost use Rattle.avm_model.specs.Machine.{State};
 ghost use Rattle.avm_model.specs.Reference.{Made, timed};
 
@@ -64,4 +67,13 @@ pub fn reference_is_timed()
 /// An entry costs the reference machine at most K steps, since it puts out a snapshot at each multiple of K.
 pub fn reference_is_short()
     ensures { (c : ℕ) (s : State) (os : List Made) → 0 < s.snap → (settle timed c s os).state.count ≤ s.count + s.snap }
+{}
+
+/// A machine of version 1 has none of the doorbell's words, and no input changes its registers or gives it a bell. A clock value
+/// rings no machine's bell.
+pub fn version_one_has_no_bell()
+    ensures loads { (d : DeviceState) → d.bell ≡ None → (device_load d 0x10000030 ≡ NotMapped) × (device_load d 0x10000034 ≡ NotMapped) × (device_load d 0x10000038 ≡ NotMapped) }
+    ensures stores { (d : DeviceState) (value : ℕ) → d.bell ≡ None → (device_store d 0x10000030 value ≡ None) × (device_store d 0x10000034 value ≡ None) × (device_store d 0x10000038 value ≡ None) }
+    ensures inputs { (s : State) (i : InputState) → s.devices.bell ≡ None → ((Take s i).hart ≡ s.hart) × ((Take s i).devices.bell ≡ None) }
+    ensures clock { (s : State) (value : ℕ) → ((Take s (Clock value)).hart ≡ s.hart) × ((Take s (Clock value)).devices.bell ≡ s.devices.bell) }
 {}

@@ -4,6 +4,7 @@
 mod judged;
 mod laws;
 mod loading;
+mod log_laws;
 
 ghost use Rattle.std.specs.Prelude.{◌≡◌};
 ghost use Rattle.avm_model.specs.Values.{bytes_of};
@@ -12,8 +13,13 @@ pub use judged::{Mark, Marked, Verdict};
 pub use laws::{
     entries_are_short, fronts_replay, judged_as_replayed, misplaced_inputs, one_first_fault,
     recorded_replays, reference_is_short, reference_is_timed, run_by_rules,
+    version_one_has_no_bell,
 };
 pub use loading::{LoadFault, ProgramHeader};
+pub use log_laws::{
+    cover_is_greatest, hashes_are_the_chain, heads_are_short, heads_are_spelled_once,
+    segments_have_their_pages,
+};
 
 /// A conditional branch.
 #[derive(Clone, Copy, Debug, PartialEq, Eq)]
@@ -200,6 +206,17 @@ pub struct Peer {
     pub sent: u64,
     pub acked: u64,
     pub received: u64,
+}
+
+/// The doorbell of a machine of version 2.
+#[derive(Clone, Copy, Debug, PartialEq, Eq)]
+pub struct Bell {
+    /// The handler's address, a multiple of 4, or 0: nothing rings.
+    pub vector: u32,
+    /// Where the handler was entered from, a multiple of 4.
+    pub saved: u32,
+    /// 0 where the handler was left (Idle), 1 where it was entered (Inside), 2 where something came in since (Rung).
+    pub state: u8,
 }
 
 /// What a store to TX_SEND sent. The payload is the first `len` bytes of the transmit window.

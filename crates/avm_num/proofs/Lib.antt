@@ -3,3 +3,6 @@ pub mod Fields
 pub mod Loops
 pub mod Walks
 pub mod Writes
+pub mod Lengths
+pub mod Locals
+pub mod Sizes

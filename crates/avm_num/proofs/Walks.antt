@@ -1,5 +1,5 @@
 -- Items one after another are read as they are spelled.
-use Rattle.std.proofs.Common.{◌≡◌, ℕ, zero, suc, ◌<◌, ◌≤◌, true, List, [], ◌∷◌, ◌++◌, length, Option, Some, None, refl, sym, ap, subst, ◌∙◌, append_assoc, append-nil, arith, All}
+use Rattle.std.proofs.Common.{◌≡◌, ℕ, zero, suc, ◌<◌, ◌≤◌, Bool, true, false, List, [], ◌∷◌, ◌++◌, length, Option, Some, None, option_map, refl, sym, ap, subst, ◌∙◌, append_assoc, append-nil, arith, All}
 use Rattle.std.specs.List.{AllByRecursion}
 use Rattle.std.proofs.lemmas.List.Elements.{All-from_recursion, recursion_from_All}
 use Rattle.avm_num.specs.Bytes.{IsBytes, kept}
@@ -110,3 +110,29 @@ all_front {X} read spell Fits r s bytes xs fits e =
 pub all_again : {X : Type 0} (read : Reader X) (spell : X → List ℕ) (Fits : X → Type 0) → Reads read spell Fits → Shortens read → (xs : List X) → All Fits xs → all_at read (list_bytes spell xs) ≡ Some xs
 unfolding items_of behind_of
 all_again {X} read spell Fits r s xs all = ap (λ (q : List X × List ℕ). kept (is_nil q.1) q.0) (again_upto read spell Fits r s xs (recursion_from_All Fits xs all) (length (list_bytes spell xs)) (omega arith))
+
+-- ---- what stands in front of other bytes
+
+-- one item and those behind it
+pub all_some : {X : Type 0} (read : Reader X) → Shortens read → (bytes : List ℕ) (p : X × List ℕ) → read bytes ≡ Some p → all_at read bytes ≡ option_map (λ xs. p.0 ∷ xs) (all_at read p.1)
+all_some {X} read s bytes p e = rw (items_some read s bytes p e, behind_some read s bytes p e) (go (is_nil (behind_of read p.1)))
+  where
+    go : (b : Bool) → kept b (p.0 ∷ items_of read p.1) ≡ option_map (λ xs. p.0 ∷ xs) (kept b (items_of read p.1))
+    go true = refl
+    go false = refl
+
+pub all_none : {X : Type 0} (read : Reader X) → Shortens read → (bytes : List ℕ) → read bytes ≡ None → all_at read bytes ≡ kept (is_nil bytes) []
+all_none read s bytes e = rw (items_none read s bytes e, behind_none read s bytes e) refl
+
+-- items that are spelled, and what is read behind them
+pub items_go : {X : Type 0} (read : Reader X) (spell : X → List ℕ) (Fits : X → Type 0) → Reads read spell Fits → Shortens read → (xs : List X) (more : List ℕ) → AllByRecursion Fits xs → items_of read (list_bytes spell xs ++ more) ≡ xs ++ items_of read more
+items_go read spell Fits r s [] more all = refl
+items_go {X} read spell Fits r s (x ∷ xs) more all =
+    let e = r.again x (list_bytes spell xs ++ more) all.0 in
+    ap (items_of read) (append_assoc (spell x) (list_bytes spell xs) more) ∙ items_some read s _ _ e ∙ ap (λ (t : List X). x ∷ t) (items_go read spell Fits r s xs more all.1)
+
+pub behind_go : {X : Type 0} (read : Reader X) (spell : X → List ℕ) (Fits : X → Type 0) → Reads read spell Fits → Shortens read → (xs : List X) (more : List ℕ) → AllByRecursion Fits xs → behind_of read (list_bytes spell xs ++ more) ≡ behind_of read more
+behind_go read spell Fits r s [] more all = refl
+behind_go read spell Fits r s (x ∷ xs) more all =
+    let e = r.again x (list_bytes spell xs ++ more) all.0 in
+    ap (behind_of read) (append_assoc (spell x) (list_bytes spell xs) more) ∙ behind_some read s _ _ e ∙ behind_go read spell Fits r s xs more all.1

@@ -1,7 +1,7 @@
 -- A list inside a format: a count that stands elsewhere, and that many items.
-use Rattle.std.specs.Prelude.{ℕ, zero, suc, ◌==◌, List, [], ◌∷◌, ◌++◌, length, Option, Some, None}
-use Rattle.std.specs.Int.{Width, to_be_bytes}
-use Rattle.avm_num.specs.Bytes.{◌>>=◌, kept, piece_at}
+use Rattle.std.specs.Prelude.{ℕ, nat_le, zero, suc, ◌==◌, List, [], ◌∷◌, ◌++◌, length, Option, Some, None}
+use Rattle.std.specs.Int.{Width, w32, to_be_bytes}
+use Rattle.avm_num.specs.Bytes.{◌>>=◌, kept, number_at, piece_at}
 
 unfoldable pub list_at : {A : Type 0} → (List ℕ → Option (A × List ℕ)) → ℕ → List ℕ → Option (List A × List ℕ)
 list_at item zero bytes = Some ([], bytes)
@@ -39,6 +39,13 @@ sized_at number bytes = number bytes >>= λ n. piece_at n.0 n.1
 
 abbrev pub sized_bytes : (ℕ → List ℕ) → List ℕ → List ℕ
 sized_bytes spell piece = spell (length piece) ++ piece
+
+-- a length of four bytes up to a limit, and that many bytes
+unfoldable pub limited_at : ℕ → List ℕ → Option (List ℕ × List ℕ)
+limited_at limit bytes = do
+  size ← number_at w32 bytes
+  piece ← piece_at size.0 size.1
+  kept (nat_le size.0 limit) piece
 
 -- a count, and that many items
 abbrev pub many_at : {A : Type 0} → (List ℕ → Option (ℕ × List ℕ)) → (List ℕ → Option (A × List ℕ)) → List ℕ → Option (List A × List ℕ)

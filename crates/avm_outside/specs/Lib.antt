@@ -1,4 +1,16 @@
 pub mod Outside
 pub mod Files
 pub mod Disk
+pub mod Moments
+pub mod Bounds
+pub mod Feed
+pub mod Outlet
+pub mod Events
 pub mod Mem
+pub mod MemFeed
+pub mod MemOutlets
+pub mod Pairs
+pub mod DiskLog
+pub mod DiskEvents
+pub mod MemDisks
+pub mod DiskLaws

@@ -11,28 +11,28 @@ mem_file m name = option_map (λ v. v.items) (get_by_text m.files name)
 
 -- the numbers of the calls that fail
 abbrev pub files_fails : MemFiles → List ℕ
-files_fails m = m.fails.items
+files_fails m = m.calls.fails.items
 
 -- how many calls there were
 abbrev pub files_calls : MemFiles → ℕ
-files_calls m = m.calls
+files_calls m = m.calls.calls
 
 abbrev pub files_faults : MemFiles → ℕ
-files_faults m = m.faults
+files_faults m = m.calls.faults
 
 abbrev pub sink_bytes : MemSink → List ℕ
 sink_bytes s = s.bytes.items
 
 -- the numbers of the calls that fail
 abbrev pub sink_fails : MemSink → List ℕ
-sink_fails s = s.fails.items
+sink_fails s = s.calls.fails.items
 
 -- how many calls there were
 abbrev pub sink_calls : MemSink → ℕ
-sink_calls s = s.calls
+sink_calls s = s.calls.calls
 
 abbrev pub sink_faults : MemSink → ℕ
-sink_faults s = s.faults
+sink_faults s = s.calls.faults
 
 abbrev pub no_disk_faults : NoDisk → ℕ
 no_disk_faults d = d.faults

@@ -1,6 +1,7 @@
 // The stated disk: one sequence of bytes, of which a crash leaves what the last sync made durable, and anything in the
 // ranges that were written since.
 ghost use Rattle.std.specs.Prelude.{◌≡◌, ◌+◌, ◌-◌, ◌^◌, ◌≤◌, ℕ, List, ◌++◌, length, take, drop, min, Option, option_map, IfOk, IfSome, OnOk, OnErr};
+ghost use Rattle.avm_num.specs.Bytes.{IsBytes};
 ghost use Rattle.avm_outside.specs.Outside.{Counts, BothTold};
 ghost use Rattle.avm_outside.specs.Disk.{Torn, Follows, Only, Elapses, overwritten};
 
@@ -64,4 +65,7 @@ pub trait Disk {
 
     /// Since this moment there is no other.
     ghost only_now: { (disk : Self) (c : List ℕ) → left_since disk (moment disk) c → may_leave disk c };
+
+    /// What it tells are bytes.
+    ghost tells_bytes: { (disk : Self) → IfSome (seen disk) IsBytes };
 }

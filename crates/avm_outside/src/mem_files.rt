@@ -3,6 +3,7 @@ ghost use Rattle.std.specs.Prelude.{◌≡◌, ◌≢◌, ◌-◌, ℕ, List, No
 ghost use Rattle.std.specs.BTreeMap.{get_by_text};
 ghost use Rattle.avm_outside.specs.Files.{IsCopied, appended};
 
+use crate::calls::Calls;
 use crate::{Failed, Files};
 use avm_num::NoMemory;
 use std::alloc::{AllocError, Global};
@@ -13,9 +14,7 @@ use std::collections::BTreeMap;
 pub struct MemFiles {
     alloc: Global,
     files: BTreeMap<String, Vec<u8>>,
-    fails: Vec<u64>,
-    calls: u64,
-    faults: u64,
+    calls: Calls,
 }
 
 impl MemFiles {
@@ -33,9 +32,7 @@ impl MemFiles {
         Ok(MemFiles {
             alloc,
             files: BTreeMap::new(alloc),
-            fails,
-            calls: 0,
-            faults: 0,
+            calls: Calls::new(fails),
         })
     }
 
@@ -62,29 +59,6 @@ impl MemFiles {
             Some(bytes) => Some(bytes.as_slice()),
             None => None,
         }
-    }
-
-    // Counts a call, and says whether it fails by the list.
-    fn call(&mut self) -> bool
-        ensures files { self.new.files ≡ self.old.files }
-        ensures fails { self.new.fails ≡ self.old.fails }
-        ensures calls { self.new.calls ≡ next_call self.old.calls }
-        ensures listed { IsTrue result ↔ Contains self.old.fails.items self.new.calls }
-        ensures faults { self.new.faults ≡ self.old.faults }
-    {
-        self.calls = self.calls.saturating_add(1);
-        self.fails.contains(&self.calls)
-    }
-
-    // Counts a fault.
-    fn fail(&mut self) -> Failed
-        ensures files { self.new.files ≡ self.old.files }
-        ensures fails { self.new.fails ≡ self.old.fails }
-        ensures calls { self.new.calls ≡ self.old.calls }
-        ensures faults { Rises self.old.faults self.new.faults }
-    {
-        self.faults = self.faults.saturating_add(1);
-        Failed
     }
 }
 
@@ -144,7 +118,7 @@ impl Files for MemFiles {
     ghost use Rattle.avm_outside.specs.Files.{Reads, AppendsFront};
     ghost use Rattle.avm_outside.specs.Mem.{mem_file, files_fails, files_calls, files_faults, next_call};
 
-    ghost faults = { λ m. m.faults };
+    ghost faults = { λ m. m.calls.faults };
 
     ghost file = { λ m name. Some (option_map (λ v. v.items) (get_by_text m.files name)) };
 
@@ -157,8 +131,8 @@ impl Files for MemFiles {
         ensures calls { files_calls self.new ≡ next_call (files_calls self.old) }
         ensures fails { files_fails self.new ≡ files_fails self.old }
     {
-        if self.call() {
-            return Err(self.fail());
+        if self.calls.count() {
+            return Err(self.calls.fail());
         }
         match self.files.get(name) {
             Some(bytes) => Ok(Some(copy(bytes, at, buf))),
@@ -175,12 +149,12 @@ impl Files for MemFiles {
         ensures calls { files_calls self.new ≡ next_call (files_calls self.old) }
         ensures fails { files_fails self.new ≡ files_fails self.old }
     {
-        if self.call() {
-            return Err(self.fail());
+        if self.calls.count() {
+            return Err(self.calls.fail());
         }
         match set(self.alloc, &mut self.files, name, Vec::new(self.alloc)) {
             Ok(()) => Ok(()),
-            Err(_) => Err(self.fail()),
+            Err(_) => Err(self.calls.fail()),
         }
     }
 
@@ -193,12 +167,12 @@ impl Files for MemFiles {
         ensures calls { files_calls self.new ≡ next_call (files_calls self.old) }
         ensures fails { files_fails self.new ≡ files_fails self.old }
     {
-        if self.call() {
-            return Err(self.fail());
+        if self.calls.count() {
+            return Err(self.calls.fail());
         }
         match add(self.alloc, &mut self.files, name, bytes) {
             Ok(()) => Ok(()),
-            Err(_) => Err(self.fail()),
+            Err(_) => Err(self.calls.fail()),
         }
     }
 }

@@ -1,6 +1,7 @@
 // A sink in memory.
 ghost use Rattle.std.specs.Prelude.{◌≡◌, [], Some, IfOk};
 
+use crate::calls::Calls;
 use crate::{Failed, Sink};
 use avm_num::NoMemory;
 use std::alloc::Global;
@@ -9,9 +10,7 @@ use std::alloc::Global;
 #[derive(Drop)]
 pub struct MemSink {
     bytes: Vec<u8>,
-    fails: Vec<u64>,
-    calls: u64,
-    faults: u64,
+    calls: Calls,
 }
 
 impl MemSink {
@@ -26,9 +25,7 @@ impl MemSink {
     {
         Ok(MemSink {
             bytes: Vec::new(alloc),
-            fails,
-            calls: 0,
-            faults: 0,
+            calls: Calls::new(fails),
         })
     }
 
@@ -45,7 +42,7 @@ impl Sink for MemSink {
     ghost use Rattle.avm_outside.specs.Outside.{Counts};
     ghost use Rattle.avm_outside.specs.Mem.{sink_bytes, sink_fails, sink_calls, sink_faults, next_call};
 
-    ghost faults = { λ s. s.faults };
+    ghost faults = { λ s. s.calls.faults };
 
     ghost written = { λ s. Some s.bytes.items };
 
@@ -57,10 +54,8 @@ impl Sink for MemSink {
         ensures calls { sink_calls self.new ≡ next_call (sink_calls self.old) }
         ensures fails { sink_fails self.new ≡ sink_fails self.old }
     {
-        self.calls = self.calls.saturating_add(1);
-        if self.fails.contains(&self.calls) || self.bytes.extend_from_slice(bytes).is_err() {
-            self.faults = self.faults.saturating_add(1);
-            return Err(Failed);
+        if self.calls.count() || self.bytes.extend_from_slice(bytes).is_err() {
+            return Err(self.calls.fail());
         }
         Ok(())
     }

@@ -44,6 +44,8 @@ impl Disk for NoDisk {
 
     ghost only_now = { λ _ _ _. tt };
 
+    ghost tells_bytes = { λ _. tt };
+
     fn len(&mut self) -> Result<u64, Failed>
         ensures fails { IsErr result }
         ensures faults { Rises (no_disk_faults self.old) (no_disk_faults self.new) }

@@ -2,13 +2,13 @@
 
 ghost use Rattle.std.specs.Prelude.{◌≡◌, ◌<◌, ◌-◌, ◌^◌, All, IfOk, IfSome, slice_get};
 ghost use Rattle.avm_model.specs.Memory.{number_at as number_at_lem};
-ghost use Rattle.avm_model.specs.Device.{Counted, device_load as device_load_lem, device_store as device_store_lem, load_console as load_console_lem, load_clock as load_clock_lem, oldest, len_of, peer_of, payload_of, sends as sends_lem, try_send as try_send_lem, idle as idle_lem};
+ghost use Rattle.avm_model.specs.Device.{Counted, device_load as device_load_lem, device_store as device_store_lem, load_console as load_console_lem, load_clock as load_clock_lem, load_vector as load_vector_lem, load_saved as load_saved_lem, store_vector as store_vector_lem, store_return as store_return_lem, oldest, len_of, peer_of, payload_of, sends as sends_lem, try_send as try_send_lem, idle as idle_lem};
 ghost use Rattle.avm_plain.specs.Shown.{loaded_devices, PeersStay};
 
 use crate::devices::Devices;
 use crate::memory::{number_at, put_number};
 use crate::rows::{next_number, row, send_result, sends_one};
-use avm_model::{Sent, Width};
+use avm_model::{Bell, Sent, Width};
 use std::alloc::AllocError;
 
 /// What a load gives where there is nothing.
@@ -45,6 +45,28 @@ fn load_clock(mut devices: Devices) -> DeviceLoad
     devices.clock = None;
     devices.latch = (value / 0x1_0000_0000) as u32;
     DeviceLoad::Gave((value % 0x1_0000_0000) as u32, devices)
+}
+
+/// BELL_VEC, which version 1 does not have.
+fn load_vector(devices: Devices) -> DeviceLoad
+    ensures value { loaded_devices result ≡ load_vector_lem devices devices.bell }
+    ensures peers { PeersStay devices.peers result }
+{
+    match devices.bell {
+        None => DeviceLoad::NotMapped,
+        Some(bell) => DeviceLoad::Gave(bell.vector, devices),
+    }
+}
+
+/// BELL_PC, which version 1 does not have.
+fn load_saved(devices: Devices) -> DeviceLoad
+    ensures value { loaded_devices result ≡ load_saved_lem devices devices.bell }
+    ensures peers { PeersStay devices.peers result }
+{
+    match devices.bell {
+        None => DeviceLoad::NotMapped,
+        Some(bell) => DeviceLoad::Gave(bell.saved, devices),
+    }
 }
 
 fn message_len(devices: &Devices) -> u32
@@ -90,6 +112,8 @@ pub fn device_load(devices: Devices, address: u32) -> DeviceLoad
         0x1000_0020 => devices.tx_peer,
         0x1000_0024 => devices.tx_len,
         0x1000_002c => devices.tx_result,
+        0x1000_0030 => return load_vector(devices),
+        0x1000_0034 => return load_saved(devices),
         0x1000_1000..0x1000_1400 if address % 4 == 0 => {
             message_word(&devices, address as usize - 0x1000_1000)
         }
@@ -143,6 +167,30 @@ pub fn idle(devices: &Devices) -> bool
     devices.console.is_empty() && devices.messages.is_empty()
 }
 
+/// BELL_VEC takes a word with bits 0 and 1 cleared.
+fn store_vector(mut devices: Devices, value: u32) -> Option<Devices>
+    ensures value { result ≡ store_vector_lem devices value devices.bell }
+    ensures peers { IfSome result (λ d. d.peers ≡ devices.peers) }
+{
+    let bell = devices.bell?;
+    devices.bell = Some(Bell {
+        vector: value / 4 * 4,
+        ..bell
+    });
+    Some(devices)
+}
+
+/// A store to BELL_RET changes no device; the return follows the instruction.
+fn store_return(devices: Devices) -> Option<Devices>
+    ensures value { result ≡ store_return_lem devices devices.bell }
+    ensures peers { IfSome result (λ d. d.peers ≡ devices.peers) }
+{
+    match devices.bell {
+        None => None,
+        Some(_) => Some(devices),
+    }
+}
+
 /// The devices after a word store, by the table of docs/FORMATS.md, "Devices"; None exactly where it allows none.
 pub fn device_store(
     mut devices: Devices,
@@ -164,6 +212,8 @@ pub fn device_store(
         0x1000_0020 => devices.tx_peer = value,
         0x1000_0024 => devices.tx_len = value,
         0x1000_0028 => return Ok(Some(try_send(devices))),
+        0x1000_0030 => return Ok(store_vector(devices, value)),
+        0x1000_0038 => return Ok(store_return(devices)),
         0x1000_2000..0x1000_2400 if address % 4 == 0 => {
             let i = address as usize - 0x1000_2000;
             put_number(Width::Word, devices.window.as_mut_slice(), i, value);

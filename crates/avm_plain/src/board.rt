@@ -7,19 +7,22 @@ ghost use Rattle.avm_plain.specs.Board.{loaded_board, IsShort, PeersStay};
 ghost use Rattle.avm_model.specs.Device.{Counted};
 
 use crate::accesses::{DeviceLoad, device_load, device_store, idle, sends};
+use crate::bells::is_entered;
 use crate::devices::Devices;
 use crate::memory::{place, put_number, ram_load};
 use avm_model::{Sent, Width};
 use std::alloc::AllocError;
 use std::marker::Model;
 
-/// RAM and the devices, what the step at hand sends, and whether the guest waits after it.
+/// RAM and the devices, what the step at hand sends, whether the guest waits after it, and whether it returns from its
+/// handler.
 #[derive(Drop)]
 pub struct Board {
     pub ram: Vec<u8>,
     pub devices: Devices,
     pub sent: Option<Sent>,
     pub waits: bool,
+    pub returns: bool,
 }
 
 impl Model for Board {
@@ -28,7 +31,7 @@ impl Model for Board {
 
     ghost Value = { BoardOf (List ℕ) };
 
-    ghost view = { λ b. record { ram = b.ram.items; devices = b.devices; send = b.sent; waits = b.waits } };
+    ghost view = { λ b. record { ram = b.ram.items; devices = b.devices; send = b.sent; waits = b.waits; returns = b.returns } };
 }
 
 /// What a load gives: a value, and the board after it.
@@ -53,6 +56,7 @@ fn load_beyond(board: Board, address: u32, width: Width) -> BoardLoad
         devices,
         sent,
         waits,
+        returns,
     } = board;
     match device_load(devices, address) {
         DeviceLoad::Gave(value, devices) => {
@@ -63,6 +67,7 @@ fn load_beyond(board: Board, address: u32, width: Width) -> BoardLoad
                     devices,
                     sent,
                     waits,
+                    returns,
                 },
             )
         }
@@ -83,7 +88,7 @@ pub fn board_load(board: Board, address: u32, width: Width) -> BoardLoad
     }
 }
 
-/// What the store sends and whether the guest waits follow from the devices before it.
+/// What the store sends, whether the guest waits and whether it returns follow from the devices before it.
 fn store_beyond(
     board: Board,
     address: u32,
@@ -103,6 +108,7 @@ fn store_beyond(
         None
     };
     let waits = address == 0x1000_0010 && idle(&board.devices);
+    let returns = address == 0x1000_0038 && is_entered(board.devices.bell);
     let ram = board.ram;
     match device_store(board.devices, address, value)? {
         None => Ok(None),
@@ -111,6 +117,7 @@ fn store_beyond(
             devices,
             sent,
             waits,
+            returns,
         })),
     }
 }

@@ -1,9 +1,11 @@
 //! The devices: what they hold.
 
 ghost use Rattle.std.specs.Prelude.{◌≡◌, replicate, IfOk};
-ghost use Rattle.avm_model.specs.Device.{fresh};
+ghost use Rattle.avm_model.specs.Bell.{bell_of as bell_of_lem};
+ghost use Rattle.avm_model.specs.Device.{fresh_with};
 
-use avm_model::Peer;
+use crate::bells::bell_of;
+use avm_model::{Bell, Peer};
 use std::alloc::{AllocError, Global};
 use std::marker::Model;
 
@@ -39,6 +41,8 @@ pub struct Devices {
     pub tx_len: u32,
     pub tx_result: u32,
     pub window: Vec<u8>,
+    /// The doorbell of version 2.
+    pub bell: Option<Bell>,
 }
 
 impl Model for Devices {
@@ -58,6 +62,7 @@ impl Model for Devices {
       tx_len = d.tx_len;
       tx_result = d.tx_result;
       window = d.window.items;
+      bell = d.bell;
     } };
 }
 
@@ -90,9 +95,14 @@ fn copy_messages(alloc: Global, messages: &[Message]) -> Result<Vec<Message>, Al
 }
 
 impl Devices {
-    /// Devices that hold nothing.
-    pub fn fresh(alloc: Global, own: u8, peers: Vec<Peer>) -> Result<Devices, AllocError>
-        ensures { IfOk result (λ d. d ≡ fresh own peers.items) }
+    /// Devices that hold nothing, with an idle bell in version 2.
+    pub fn fresh(
+        alloc: Global,
+        version: u8,
+        own: u8,
+        peers: Vec<Peer>,
+    ) -> Result<Devices, AllocError>
+        ensures { IfOk result (λ d. d ≡ fresh_with (bell_of_lem version) own peers.items) }
     {
         Ok(Devices {
             own,
@@ -106,6 +116,7 @@ impl Devices {
             tx_len: 0,
             tx_result: 0,
             window: zeros(alloc, 1024)?,
+            bell: bell_of(version),
         })
     }
 
@@ -125,6 +136,7 @@ impl Devices {
             tx_len: self.tx_len,
             tx_result: self.tx_result,
             window: Vec::from_slice(alloc, self.window.as_slice())?,
+            bell: self.bell,
         })
     }
 }

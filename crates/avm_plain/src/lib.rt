@@ -3,6 +3,7 @@
 #![tactic(auto)]
 
 mod accesses;
+mod bells;
 mod board;
 mod devices;
 mod entries;
@@ -23,12 +24,9 @@ pub use devices::{Devices, Message};
 pub use entries::{Entry, Given, Made};
 pub use executing::{Outcome, execute, run};
 pub use hart::Hart;
-pub use replaying::{replays, rerun};
+pub use replaying::{is_front, replays, rerun};
 pub use state::{Output, State, Stepped, asks, can_step};
 pub use stepping::step;
 pub use taking::{Input, refusal, take};
 pub use values::{imm_value, is_taken, load_value, mul_value, reg_value};
 pub use words::decode;
-
-#[cfg(test)]
-mod tests;

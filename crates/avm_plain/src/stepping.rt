@@ -2,9 +2,10 @@
 
 ghost use Rattle.std.specs.Prelude.{◌≡◌, ◌<◌, ◌≤◌, ◌+◌, ◌-◌, ◌^◌, ◌++◌, ◌∷◌, [], take, map, IfOk, if◌then◌else◌};
 ghost use Rattle.avm_model.specs.Device.{Counted};
-ghost use Rattle.avm_model.specs.Machine.{Step, is_complete as is_complete_lem, out_line as out_line_lem, out_send as out_send_lem, out_snap as out_snap_lem, emptied as emptied_lem, went as went_lem, halted as halted_lem};
+ghost use Rattle.avm_model.specs.Machine.{Step, is_complete as is_complete_lem, out_line as out_line_lem, out_send as out_send_lem, out_snap as out_snap_lem, came_back as came_back_lem, left as left_lem, emptied as emptied_lem, went as went_lem, halted as halted_lem};
 ghost use Rattle.avm_plain.specs.Step.{output_of, stepped_of};
 
+use crate::bells::{after_return, pc_after_return};
 use crate::board::Board;
 use crate::devices::Devices;
 use crate::executing::{Outcome, run};
@@ -110,6 +111,27 @@ fn status_after(waits: bool) -> Status
     }
 }
 
+/// The hart behind an instruction, where the guest returned from its handler or not.
+fn came_back(mut hart: Hart, devices: &Devices, returns: bool) -> Hart
+    ensures { result ≡ came_back_lem returns devices.now hart }
+{
+    if returns {
+        hart.pc = pc_after_return(devices.bell, hart.pc);
+    }
+    hart
+}
+
+/// The devices, where the guest returned from its handler or not.
+fn left(mut devices: Devices, returns: bool) -> Devices
+    ensures value { result ≡ left_lem returns devices }
+    ensures peers { result.peers ≡ devices.peers }
+{
+    if returns {
+        devices.bell = after_return(devices.bell);
+    }
+    devices
+}
+
 /// A step that goes on.
 fn went(alloc: Global, state: &State, hart: Hart, board: Board) -> Result<Stepped, AllocError>
     requires room { state.now.count < 2 ^ 64 - 1 }
@@ -121,7 +143,10 @@ fn went(alloc: Global, state: &State, hart: Hart, board: Board) -> Result<Steppe
         devices,
         sent,
         waits,
+        returns,
     } = board;
+    let hart = came_back(hart, &devices, returns);
+    let devices = left(devices, returns);
     let count = state.count + 1;
     let emits = is_complete(devices.line.as_slice());
     let outs = out_line(alloc, Vec::new(alloc), emits, devices.line.as_slice())?;
@@ -169,6 +194,7 @@ pub fn step(alloc: Global, state: &State) -> Result<Stepped, AllocError>
         devices: state.devices.copy(alloc)?,
         sent: None,
         waits: false,
+        returns: false,
     };
     match run(copy_hart(&state.hart), board)? {
         Outcome::Goes(hart, board) => went(alloc, state, hart, board),

@@ -2,10 +2,11 @@
 
 ghost use Rattle.std.specs.Prelude.{◌≡◌, ◌+◌, ◌++◌, ◌∷◌, [], IfOk, IfSome, Some, None};
 ghost use Rattle.avm_model.specs.Device.{row_of, with_row};
-ghost use Rattle.avm_model.specs.Input.{Refusal, Take, Console, receives_one as receives_one_lem, acknowledges as acknowledges_lem, refuse_message as refuse_message_lem, refuse_acked as refuse_acked_lem, is_halted as is_halted_lem, woken as woken_lem};
+ghost use Rattle.avm_model.specs.Input.{Refusal, Take, Console, receives_one as receives_one_lem, acknowledges as acknowledges_lem, refuse_message as refuse_message_lem, refuse_acked as refuse_acked_lem, is_halted as is_halted_lem, rings as rings_lem, woken as woken_lem};
 ghost use Rattle.avm_plain.specs.Input.{input_of};
 ghost use Rattle.avm_plain.specs.Peers.{SentKept};
 
+use crate::bells::{after_ring, pc_after_ring};
 use crate::devices::{Devices, Message};
 use crate::hart::copy_hart;
 use crate::rows::{acknowledges, receives_one, row};
@@ -197,7 +198,20 @@ fn count_ack(mut devices: Devices, peer: u32) -> Devices
     devices
 }
 
-/// The state after an input that is not refused.
+/// The state after a ring of its bell; a halted machine's does not ring, and version 1 has none.
+fn rung(mut state: State) -> State
+    ensures { result ≡ rings_lem state }
+{
+    if !is_halted(state.status) {
+        let bell = state.devices.bell;
+        let pc = state.hart.pc;
+        state.hart.pc = pc_after_ring(bell, pc);
+        state.devices.bell = after_ring(bell, pc);
+    }
+    state
+}
+
+/// The state after an input that is not refused; all but a clock value ring the bell.
 pub fn take(alloc: Global, state: &State, input: &Input) -> Result<State, AllocError>
     requires { Refusal state.now (input_of input.now) ≡ None }
     ensures { IfOk result (λ s. s ≡ Take state.now (input_of input.now)) }
@@ -207,17 +221,18 @@ pub fn take(alloc: Global, state: &State, input: &Input) -> Result<State, AllocE
     match input {
         Input::Console(bytes) => {
             let devices = add_console(devices, bytes.as_slice())?;
-            with_devices(alloc, state, devices, status)
+            Ok(rung(with_devices(alloc, state, devices, status)?))
         }
         Input::Clock(value) => {
             with_devices(alloc, state, put_clock(devices, *value), state.status)
         }
         Input::Message { number, message } => {
             let devices = add_message(devices, *number, message.copy(alloc)?)?;
-            with_devices(alloc, state, devices, status)
+            Ok(rung(with_devices(alloc, state, devices, status)?))
         }
         Input::Acked { peer, .. } => {
-            with_devices(alloc, state, count_ack(devices, *peer), status)
+            let devices = count_ack(devices, *peer);
+            Ok(rung(with_devices(alloc, state, devices, status)?))
         }
     }
 }

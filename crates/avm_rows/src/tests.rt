@@ -1,12 +1,14 @@
 //! Runs of the top call: what it prints, its status, and the file that it writes.
 
 mod building;
+mod doorbell;
 mod echo;
 mod entries;
-mod guests;
 mod images;
 mod keys;
 mod rows;
 mod running;
 mod signed;
+mod top;
 mod verdicts;
+mod views;

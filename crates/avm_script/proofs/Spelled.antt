@@ -2,10 +2,11 @@
 use Rattle.std.proofs.Common.{◌≡◌, ◌≢◌, ℕ, zero, suc, ◌^◌, ◌<◌, ◌≤◌, ◌&&◌, ◌==◌, not, true, false, List, [], ◌∷◌, length, get_or, Option, Some, None, Result, Ok, Err, ltb, refl, sym, ap, ◌∙◌, arith, inl, inr, ◌⊎◌, subst}
 use Rattle.std.specs.Fmt.{decimal}
 use Rattle.std.specs.Result.{result_ok, OkIff}
-use Rattle.std.specs.Str.{bytes_eq}
+use Rattle.std.specs.Str.{bytes_eq, IsUtf8}
+use Rattle.std.proofs.lemmas.Str.{IsUtf8-from_ascii}
 use Rattle.std.specs.Str.Parse.{digits_value, ParsesUnsigned, AllDigits, IsNumeral}
 use Rattle.std.proofs.lemmas.Bool.{ltb-true, lt-ltb}
-use Rattle.std.proofs.lemmas.Fmt.{decimal_is_IsNumeral, decimal-digits_value, decimal_digit, first_decimal}
+use Rattle.std.proofs.lemmas.Fmt.{decimal_is_IsNumeral, decimal-digits_value, decimal_digit, first_decimal, IsAscii-decimal}
 use Rattle.std.proofs.lemmas.Slice.Eq.{bytes_eq-Decides}
 use Rattle.std.proofs.lemmas.Str.Parse.{IsNumeralModel, numerals_by_value, tells_digits, parse_plain, digit_from_value}
 use Rattle.avm_num.proofs.Numbers.{kept_some, and_true}
@@ -99,17 +100,21 @@ plain_parsed text (Err e) h p =
     g (numeral.1, numeral.0, omega arith)))
 
 -- the same number below a smaller limit
-pub small_some : (n : ℕ) (text : List ℕ) → number_of (2 ^ 64) text ≡ Some n → n < 2 ^ 32 → number_of (2 ^ 32) text ≡ Some n
-small_some n text e lt = let s = number_some (2 ^ 64) n text e in number_is (2 ^ 32) n text s.0 lt s.1
+pub below_some : (limit n : ℕ) (text : List ℕ) → number_of (2 ^ 64) text ≡ Some n → n < limit → number_of limit text ≡ Some n
+below_some limit n text e lt = let s = number_some (2 ^ 64) n text e in number_is limit n text s.0 lt s.1
 
-pub small_none : (text : List ℕ) → number_of (2 ^ 64) text ≡ None → number_of (2 ^ 32) text ≡ None
-small_none text e = number_none (2 ^ 32) text (λ n lt is. let s : number_of (2 ^ 64) text ≡ Some n = number_is (2 ^ 64) n text is (omega arith) (omega arith) in let bad : Some n ≡ None = sym s ∙ e in cc)
+pub below_none : (limit : ℕ) (text : List ℕ) → number_of (2 ^ 64) text ≡ None → limit < 2 ^ 64 → number_of limit text ≡ None
+below_none limit text e small = number_none limit text (λ n lt is. let s : number_of (2 ^ 64) text ≡ Some n = number_is (2 ^ 64) n text is (omega arith) (omega arith) in let bad : Some n ≡ None = sym s ∙ e in cc)
 
-pub small_over : (n : ℕ) (text : List ℕ) → number_of (2 ^ 64) text ≡ Some n → 2 ^ 32 ≤ n → number_of (2 ^ 32) text ≡ None
-small_over n text e over = number_none (2 ^ 32) text (λ m lt is.
+pub below_over : (limit n : ℕ) (text : List ℕ) → number_of (2 ^ 64) text ≡ Some n → limit ≤ n → limit < 2 ^ 64 → number_of limit text ≡ None
+below_over limit n text e over small = number_none limit text (λ m lt is.
     let s : number_of (2 ^ 64) text ≡ Some m = number_is (2 ^ 64) m text is (omega arith) (omega arith) in
     let same : n ≡ m = one n m (sym e ∙ s) in
     omega arith)
   where
     one : (n m : ℕ) → Some n ≡ Some m → n ≡ m
     one n m e = cc
+
+-- bytes that are no text are no number
+pub not_utf8 : (text : List ℕ) → (IsUtf8 text → ⊥) → number_of (2 ^ 64) text ≡ None
+not_utf8 text never = number_none (2 ^ 64) text (λ n small is. never (subst IsUtf8 (sym is) (IsUtf8-from_ascii (decimal n) (IsAscii-decimal n small))))

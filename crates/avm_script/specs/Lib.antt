@@ -1,2 +1,11 @@
 pub mod View
 pub mod Plain
+pub mod Job
+pub mod Script
+pub mod Lines
+pub mod Sofar
+pub mod Listed
+pub mod Readings
+pub mod Feeds
+pub mod Config
+pub mod ConfigView

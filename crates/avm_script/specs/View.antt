@@ -1,7 +1,7 @@
 -- A job in data.
 use Rattle.std.specs.Prelude.{ℕ, List, Option, option_map}
 use Rattle.std.specs.Borrow.{Bor}
-use Rattle.avm_model.specs.Job.{SignedData, JobData, keygen, format, record_job, export, audit, check, rebut, list, sample}
+use Rattle.avm_script.specs.Job.{SignedData, JobData, keygen, format, record_job, export, audit, check, rebut, list, sample, retain, roll, enroll, widen, narrow, view_at, view_changes}
 use Rattle.avm_script.specs.declared.types.Signed.{Signed}
 use Rattle.avm_script.specs.declared.types.Job.{Job}
 use Rattle.avm_script.specs.declared.types.Job.TheVariants as job
@@ -22,3 +22,10 @@ job_view (job.Check key evidence) = check key.now evidence.now
 job_view (job.Rebut store evidence) = rebut store.now evidence.now
 job_view (job.List store) = list store.now
 job_view (job.Sample seed) = sample seed
+job_view (job.Retain store into at) = retain store.now into.now at
+job_view (job.Roll store key) = roll store.now key.now
+job_view (job.Enroll store key public endorse) = enroll store.now key.now public.now endorse.now
+job_view (job.Widen endorse auths out) = widen endorse.now auths.now out.now
+job_view (job.Narrow key auths public out) = narrow key.now auths.now public.now out.now
+job_view (job.ViewAt segment count from words) = view_at segment.now count from words
+job_view (job.ViewChanges segment at) = view_changes segment.now at

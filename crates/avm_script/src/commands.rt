@@ -1,13 +1,13 @@
 // One function a command: its options, and the job that they give.
 ghost use Rattle.std.specs.Prelude.{◌≡◌, List, ℕ, map, option_map, string_bytes};
-ghost use Rattle.avm_model.specs.Job.{asked_of, signed_of, keygen_command, format_command, record_command, export_command, audit_command, check_command, rebut_command, list_command, sample_command};
+ghost use Rattle.avm_script.specs.Job.{asked_of, signed_of, keygen_command, format_command, record_command, export_command, audit_command, check_command, rebut_command, list_command, sample_command, retain_command};
 ghost use Rattle.avm_script.specs.View.{job_view, signed_view};
 
 use crate::options::{are_apart, given, is_paired, once};
 use crate::values::{height, hex_16, hex_32, number, small_number, width};
 use crate::{Job, Signed};
 
-#[tactic(auto, using(crate::proofs::Asked::refused, crate::proofs::Asked::asked), unfolding(avm_model::specs::Job::keygen_job))]
+#[tactic(auto, using(crate::proofs::Asked::refused, crate::proofs::Asked::asked), unfolding(crate::specs::Job::keygen_job))]
 pub fn keygen(words: &[String]) -> Option<Job<'_>>
     ensures { option_map job_view result ≡ asked_of keygen_command (map string_bytes words.now) }
 {
@@ -36,7 +36,7 @@ pub fn keygen(words: &[String]) -> Option<Job<'_>>
     })
 }
 
-#[tactic(auto, using(crate::proofs::Asked::refused, crate::proofs::Asked::asked), unfolding(avm_model::specs::Job::format_job))]
+#[tactic(auto, using(crate::proofs::Asked::refused, crate::proofs::Asked::asked), unfolding(crate::specs::Job::format_job))]
 pub fn format(words: &[String]) -> Option<Job<'_>>
     ensures { option_map job_view result ≡ asked_of format_command (map string_bytes words.now) }
 {
@@ -58,7 +58,7 @@ pub fn format(words: &[String]) -> Option<Job<'_>>
     })
 }
 
-#[tactic(auto, using(crate::proofs::Asked::refused, crate::proofs::Asked::asked), unfolding(avm_model::specs::Job::record_words))]
+#[tactic(auto, using(crate::proofs::Asked::refused, crate::proofs::Asked::asked), unfolding(crate::specs::Job::record_words))]
 pub fn record(words: &[String]) -> Option<Job<'_>>
     ensures { option_map job_view result ≡ asked_of record_command (map string_bytes words.now) }
 {
@@ -94,7 +94,7 @@ pub fn record(words: &[String]) -> Option<Job<'_>>
     })
 }
 
-#[tactic(auto, using(crate::proofs::Asked::refused, crate::proofs::Asked::asked), unfolding(avm_model::specs::Job::export_job))]
+#[tactic(auto, using(crate::proofs::Asked::refused, crate::proofs::Asked::asked), unfolding(crate::specs::Job::export_job))]
 pub fn export(words: &[String]) -> Option<Job<'_>>
     ensures { option_map job_view result ≡ asked_of export_command (map string_bytes words.now) }
 {
@@ -117,7 +117,7 @@ pub fn export(words: &[String]) -> Option<Job<'_>>
 }
 
 // The names that go together: all three, or none.
-#[tactic(auto, unfolding(avm_model::specs::Job::signed_of))]
+#[tactic(auto, unfolding(crate::specs::Job::signed_of))]
 fn signed(words: &[String]) -> Option<Option<Signed<'_>>>
     ensures { option_map (option_map signed_view) result ≡ signed_of (map string_bytes words.now) }
 {
@@ -135,7 +135,7 @@ fn signed(words: &[String]) -> Option<Option<Signed<'_>>>
     }
 }
 
-#[tactic(auto, using(crate::proofs::Asked::refused, crate::proofs::Asked::asked), unfolding(avm_model::specs::Job::audit_job))]
+#[tactic(auto, using(crate::proofs::Asked::refused, crate::proofs::Asked::asked), unfolding(crate::specs::Job::audit_job))]
 pub fn audit(words: &[String]) -> Option<Job<'_>>
     ensures { option_map job_view result ≡ asked_of audit_command (map string_bytes words.now) }
 {
@@ -164,7 +164,7 @@ pub fn audit(words: &[String]) -> Option<Job<'_>>
     })
 }
 
-#[tactic(auto, using(crate::proofs::Asked::refused, crate::proofs::Asked::asked), unfolding(avm_model::specs::Job::check_job))]
+#[tactic(auto, using(crate::proofs::Asked::refused, crate::proofs::Asked::asked), unfolding(crate::specs::Job::check_job))]
 pub fn check(words: &[String]) -> Option<Job<'_>>
     ensures { option_map job_view result ≡ asked_of check_command (map string_bytes words.now) }
 {
@@ -179,7 +179,7 @@ pub fn check(words: &[String]) -> Option<Job<'_>>
     Some(Job::Check { key, evidence })
 }
 
-#[tactic(auto, using(crate::proofs::Asked::refused, crate::proofs::Asked::asked), unfolding(avm_model::specs::Job::rebut_job))]
+#[tactic(auto, using(crate::proofs::Asked::refused, crate::proofs::Asked::asked), unfolding(crate::specs::Job::rebut_job))]
 pub fn rebut(words: &[String]) -> Option<Job<'_>>
     ensures { option_map job_view result ≡ asked_of rebut_command (map string_bytes words.now) }
 {
@@ -194,7 +194,7 @@ pub fn rebut(words: &[String]) -> Option<Job<'_>>
     Some(Job::Rebut { store, evidence })
 }
 
-#[tactic(auto, using(crate::proofs::Asked::refused, crate::proofs::Asked::asked), unfolding(avm_model::specs::Job::list_job))]
+#[tactic(auto, using(crate::proofs::Asked::refused, crate::proofs::Asked::asked), unfolding(crate::specs::Job::list_job))]
 pub fn list(words: &[String]) -> Option<Job<'_>>
     ensures { option_map job_view result ≡ asked_of list_command (map string_bytes words.now) }
 {
@@ -205,7 +205,7 @@ pub fn list(words: &[String]) -> Option<Job<'_>>
     Some(Job::List { store })
 }
 
-#[tactic(auto, using(crate::proofs::Asked::refused, crate::proofs::Asked::asked), unfolding(avm_model::specs::Job::sample_job))]
+#[tactic(auto, using(crate::proofs::Asked::refused, crate::proofs::Asked::asked), unfolding(crate::specs::Job::sample_job))]
 pub fn sample(words: &[String]) -> Option<Job<'_>>
     ensures { option_map job_view result ≡ asked_of sample_command (map string_bytes words.now) }
 {
@@ -214,4 +214,20 @@ pub fn sample(words: &[String]) -> Option<Job<'_>>
     }
     let seed = small_number(once(words, "--seed")?)?;
     Some(Job::Sample { seed })
+}
+
+#[tactic(auto, using(crate::proofs::Asked::refused, crate::proofs::Asked::asked), unfolding(crate::specs::Job::retain_job))]
+pub fn retain(words: &[String]) -> Option<Job<'_>>
+    ensures { option_map job_view result ≡ asked_of retain_command (map string_bytes words.now) }
+{
+    if !is_paired(words, &["--store", "--into", "--at"]) {
+        return None;
+    }
+    let store = once(words, "--store")?;
+    let into = once(words, "--into")?;
+    let at = number(once(words, "--at")?)?;
+    if !are_apart(&[store, into]) {
+        return None;
+    }
+    Some(Job::Retain { store, into, at })
 }

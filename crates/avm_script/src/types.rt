@@ -71,4 +71,48 @@ pub enum Job<'a> {
     Sample {
         seed: u32,
     },
+    /// Moves the entries of a store from a snapshot on into a spare store, and retires it.
+    Retain {
+        store: &'a str,
+        into: &'a str,
+        at: u64,
+    },
+    /// Makes a roll for a key that signs the keys of stores.
+    Roll {
+        store: &'a str,
+        key: &'a str,
+    },
+    /// Binds a store's key in a roll, and endorses it.
+    Enroll {
+        store: &'a str,
+        key: &'a str,
+        public: &'a str,
+        endorse: &'a str,
+    },
+    /// Turns authenticators into those of two levels.
+    Widen {
+        endorse: &'a str,
+        auths: &'a str,
+        out: &'a str,
+    },
+    /// Verifies authenticators of two levels, and turns them into those of one key.
+    Narrow {
+        key: &'a str,
+        auths: &'a str,
+        public: &'a str,
+        out: &'a str,
+    },
+    /// Shows the guest's state at a count, and `words` words of its RAM from an address on; both are 0 where none is asked
+    /// for.
+    ViewAt {
+        segment: &'a str,
+        count: u64,
+        from: u32,
+        words: u32,
+    },
+    /// Shows the changes of a word of RAM.
+    ViewChanges {
+        segment: &'a str,
+        at: u32,
+    },
 }

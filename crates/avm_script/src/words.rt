@@ -1,11 +1,11 @@
 // The words of a command line.
 ghost use Rattle.std.specs.Prelude.{◌≡◌, List, ℕ, map, option_map, string_bytes};
 ghost use Rattle.std.specs.Result.{result_ok};
-ghost use Rattle.avm_model.specs.Job.{first_asked, commands, job_of, store_of, spare_of, value_of};
+ghost use Rattle.avm_script.specs.Job.{first_asked, commands, job_of, store_of, spare_of, value_of};
 ghost use Rattle.avm_script.specs.View.{job_view, text_view};
 
 use crate::options::once;
-use crate::{BadWords, Job, commands};
+use crate::{BadWords, Job, commands, levels, views};
 
 /// The job that the words name: a command, then options and values in pairs, in any order. BadWords exactly where
 /// they name none.
@@ -15,7 +15,7 @@ pub fn job(words: &[String]) -> Result<Job<'_>, BadWords>
     asked(words).ok_or(BadWords)
 }
 
-#[tactic(auto, unfolding(avm_model::specs::Job::job_of))]
+#[tactic(auto, unfolding(crate::specs::Job::job_of))]
 fn asked(words: &[String]) -> Option<Job<'_>>
     ensures { option_map job_view result ≡ job_of (map string_bytes words.now) }
 {
@@ -39,6 +39,12 @@ fn named<'a>(name: &str, words: &'a [String]) -> Option<Job<'a>>
         "rebut" => commands::rebut(words),
         "list" => commands::list(words),
         "sample" => commands::sample(words),
+        "retain" => commands::retain(words),
+        "roll" => levels::roll(words),
+        "enroll" => levels::enroll(words),
+        "widen" => levels::widen(words),
+        "narrow" => levels::narrow(words),
+        "view" => views::view(words),
         _ => None,
     }
 }
@@ -58,7 +64,7 @@ pub fn spare_word(words: &[String]) -> Option<&str>
 }
 
 // The value behind an option of a valid job.
-#[tactic(auto, unfolding(avm_model::specs::Job::value_of))]
+#[tactic(auto, unfolding(crate::specs::Job::value_of))]
 fn value<'a>(words: &'a [String], option: &str) -> Option<&'a str>
     ensures { text_view result ≡ value_of option.now (map string_bytes words.now) }
 {

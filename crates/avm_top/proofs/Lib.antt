@@ -1,6 +1,2 @@
-pub mod Fronts
-pub mod Cuts
-pub mod Names
-pub mod Judged
-pub mod Checked
-pub mod Meanings
+mod Names
+mod Meant

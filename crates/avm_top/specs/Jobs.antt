@@ -1,17 +1,22 @@
--- How a job ends, and what it leaves, by the files that it finds.
-use Rattle.std.specs.Prelude.{◌≡◌, ◌≢◌, ℕ, List, [], ◌∷◌, Option, None, Some}
-use Rattle.avm_model.specs.Job.{JobData, keygen, audit, check}
-use Rattle.avm_top.specs.FileMap.{FileMap}
-use Rattle.avm_top.specs.Keygen.{KeysMade, KeysCut, key_of_words}
-use Rattle.avm_top.specs.Audit.{AuditEnds, AuditLeaves, audit_writes}
-use Rattle.avm_top.specs.Check.{CheckEnds}
-use Rattle.avm_top.specs.declared.ends.End.{End}
-use Rattle.avm_top.specs.declared.ends.End.TheVariants.{RefusedWords, RefusedNotBuilt}
+-- How a job runs and what its status says, by the definitions of its command.
+use Rattle.std.specs.Prelude.{◌≡◌, ◌≢◌, ℕ, List, [], ◌∷◌, Option, None, Some, codes}
+use Rattle.avm_script.specs.Job.{JobData, SignedData, keygen, audit, check, view_at, view_changes}
+use Rattle.audit_command.specs.Audit.{audit_writes}
+use Rattle.audit_command.specs.Meaning.{AuditMeans, CheckMeans, IsAcceptedLater}
+use Rattle.audit_command.specs.Outcomes.{AuditRuns, CheckRuns}
+use Rattle.command_parts.specs.FileMap.{FileMap, SameFiles}
+use Rattle.command_parts.specs.Printing.{line, Printed}
+use Rattle.keygen_command.specs.Keygen.{KeygenRuns, key_of_words}
+use Rattle.view_command.specs.Meaning.{ViewMeans}
+use Rattle.view_command.specs.Outcomes.{ViewEnds}
+use Rattle.view_command.specs.Showing.{ShowsState, ShowsChanges, StateOutOfRange, ChangesOutOfRange}
+use Rattle.view_command.specs.declared.shown.StateAsked.{StateAsked}
 
--- the name is none of these
-abbrev pub IsNoneOf : List (List ℕ) → List ℕ → Type 0
-IsNoneOf [] name = Unit {0}
-IsNoneOf (n ∷ names) name = (name ≢ n) × IsNoneOf names name
+-- a key's two files have different names, and so have the key and the evidence of an audit
+abbrev pub NamesApart : JobData → Type 0
+NamesApart (keygen height w id seed key public) = key ≢ public
+NamesApart (audit segment image (Some names)) = names.key ≢ names.evidence
+NamesApart job = Unit {0}
 
 -- the names of the files that a job may change
 abbrev pub written_by : Option JobData → List (List ℕ)
@@ -19,17 +24,29 @@ written_by (Some (keygen height w id seed key public)) = key ∷ public ∷ []
 written_by (Some (audit segment image signed)) = audit_writes signed
 written_by job = []
 
--- the end of a job that meets no fault and has enough memory, by the files before and after it
-abbrev pub EndsAs : Option JobData → FileMap → FileMap → End → Type 0
-EndsAs None old new end = end ≡ RefusedWords
-EndsAs (Some (keygen height w id seed key public)) old new end = KeysMade (key_of_words height w id seed) key public old new end
-EndsAs (Some (audit segment image signed)) old new end = AuditEnds segment image signed old new end
-EndsAs (Some (check key evidence)) old new end = CheckEnds key evidence old end
-EndsAs (Some job) old new end = end ≡ RefusedNotBuilt
+abbrev pub state_asked : ℕ → ℕ → ℕ → StateAsked
+state_asked count from words = record { count = count; from = from; words = words }
 
--- what a job leaves that a fault of the files ends; a job that isn't built, and words that name none, meet no such fault
-abbrev pub LeavesAs : Option JobData → FileMap → FileMap → Type 0
-LeavesAs (Some (keygen height w id seed key public)) old new = KeysCut (key_of_words height w id seed) key public old new
-LeavesAs (Some (audit segment image signed)) old new = AuditLeaves segment image signed old new
-LeavesAs (Some (check key evidence)) old new = Unit {0}
-LeavesAs job old new = ⊥
+-- one line says why nothing is done, and no file is touched
+abbrev pub Refused : List ℕ → ℕ → FileMap → FileMap → ℕ → ℕ → ℕ → ℕ → Option (List ℕ) → Option (List ℕ) → ℕ → Type 0
+Refused text status old new files_before files_now before now printed_old printed_new result =
+    SameFiles old new × (files_now ≡ files_before) × Printed (line text ∷ []) status before now printed_old printed_new result
+
+-- a run of a job, by the files before and after it, their counts of faults and the sink's, what is printed, and the status
+abbrev pub RunsAs : Option JobData → FileMap → FileMap → ℕ → ℕ → ℕ → ℕ → Option (List ℕ) → Option (List ℕ) → ℕ → Type 0
+RunsAs None old new = Refused (codes "refused words") 3 old new
+RunsAs (Some (keygen height w id seed key public)) old new = KeygenRuns (key_of_words height w id seed) key public old new
+RunsAs (Some (audit segment image signed)) old new = AuditRuns segment image signed old new
+RunsAs (Some (check key evidence)) old new = CheckRuns key evidence old new
+RunsAs (Some (view_at segment count from words)) old new = ViewEnds (ShowsState (state_asked count from words)) (StateOutOfRange (state_asked count from words)) (old segment)
+RunsAs (Some (view_changes segment at)) old new = ViewEnds (ShowsChanges at) (ChangesOutOfRange at) (old segment)
+RunsAs (Some job) old new = Refused (codes "refused notbuilt") 2 old new
+
+-- what the status says
+abbrev pub MeansAs : Option JobData → FileMap → FileMap → Option (List ℕ) → Option (List ℕ) → ℕ → Type 0
+MeansAs (Some (audit segment image signed)) old new before after result =
+    AuditMeans segment image signed old new before after result × ((names : SignedData) → signed ≡ Some names → names.key ≢ names.evidence → result ≡ 1 → IsAcceptedLater names old new)
+MeansAs (Some (check key evidence)) old new before after result = CheckMeans key evidence old result
+MeansAs (Some (view_at segment count from words)) old new before after result = ViewMeans (ShowsState (state_asked count from words)) (old segment) before after result
+MeansAs (Some (view_changes segment at)) old new before after result = ViewMeans (ShowsChanges at) (old segment) before after result
+MeansAs job old new before after result = Unit {0}

@@ -1,15 +1,1 @@
-pub mod Reading
-pub mod FileMap
-pub mod Ends
-pub mod Said
-pub mod Printing
-pub mod Keygen
-pub mod Tested
-pub mod ImageFile
-pub mod Subject
-pub mod Audit
-pub mod Inputs
-pub mod Check
 pub mod Jobs
-pub mod Outcomes
-pub mod Meaning

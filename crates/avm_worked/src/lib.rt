@@ -7,8 +7,9 @@ ghost use Rattle.avm_model.specs.Device.{fresh};
 ghost use Rattle.avm_model.specs.Machine.{Step, Out, Halt, Snap, initial, asks};
 ghost use Rattle.avm_model.specs.Input.{Refusal, Clock};
 ghost use Rattle.avm_model.specs.Values.{mul_value, imm_value, load_value};
+ghost use Rattle.avm_worked.specs.Guests.{bell_guest, later, typed};
 
-use avm_model::{ImmOp, Inst, LoadOp, MulOp, NotTaken};
+use avm_model::{Bell, ImmOp, Inst, LoadOp, MulOp, NotTaken};
 
 /// Quotients, remainders, high products, a shift and a load.
 pub fn worked_values()
@@ -54,4 +55,21 @@ pub fn worked_runs()
     ensures asks { asks ((Step (initial (fresh 0 []) (183 ∷ 2 ∷ 0 ∷ 16 ∷ 131 ∷ 168 ∷ 130 ∷ 0 ∷ 115 ∷ 0 ∷ 0 ∷ 0 ∷ []) 1024 0x80000000)).state) ≡ true }
     ensures asked { Refusal ((Step (initial (fresh 0 []) (183 ∷ 2 ∷ 0 ∷ 16 ∷ 131 ∷ 168 ∷ 130 ∷ 0 ∷ 115 ∷ 0 ∷ 0 ∷ 0 ∷ []) 1024 0x80000000)).state) (Clock 7) ≡ None }
     ensures early { Refusal (initial (fresh 0 []) (183 ∷ 2 ∷ 0 ∷ 16 ∷ 131 ∷ 168 ∷ 130 ∷ 0 ∷ 115 ∷ 0 ∷ 0 ∷ 0 ∷ []) 1024 0x80000000) (Clock 7) ≡ Some NotTaken.NotAsked }
+{}
+
+/// A guest of version 2 whose handler prints what was typed in. In version 1 its store to BELL_VEC halts it.
+#[tactic(auto, unfolding(avm_model::specs::Machine::exec_flat))]
+pub fn worked_bell()
+    // Ten steps reach the jump to itself. What is typed in then enters the handler, and its second step puts out the line.
+    ensures entered { (typed (later 10 (bell_guest 2))).hart.pc ≡ 0x80000014 }
+    ensures saved { (typed (later 10 (bell_guest 2))).devices.bell ≡ Some (record { vector = 0x80000014; saved = 0x80000010; state = 1 }) }
+    ensures line { (Step (later 1 (typed (later 10 (bell_guest 2))))).outs ≡ Out (10 ∷ []) ∷ [] }
+    ensures back { (later 3 (typed (later 10 (bell_guest 2)))).hart.pc ≡ 0x80000010 }
+    ensures left { (later 3 (typed (later 10 (bell_guest 2)))).devices.bell ≡ Some (record { vector = 0x80000014; saved = 0x80000010; state = 0 }) }
+    // What is typed in inside the handler rings, and the return enters the handler again: the second line is the fifth step's.
+    ensures rung { (typed (later 1 (typed (later 10 (bell_guest 2))))).devices.bell ≡ Some (record { vector = 0x80000014; saved = 0x80000010; state = 2 }) }
+    ensures again { (later 2 (typed (later 1 (typed (later 10 (bell_guest 2)))))).hart.pc ≡ 0x80000014 }
+    ensures second { (Step (later 3 (typed (later 1 (typed (later 10 (bell_guest 2))))))).outs ≡ Out (10 ∷ []) ∷ [] }
+    // Version 1.
+    ensures unmapped { (Step (later 3 (bell_guest 1))).outs ≡ Halt 8 0x10000030 ∷ [] }
 {}

@@ -1,5 +1,5 @@
 -- What loading an image into zeros says of the test of its initial state.
-use Rattle.std.proofs.Common.{◌≡◌, ℕ, ◌*◌, ◌/◌, Bool, true, false, List, length, replicate, Option, Some, None, refl, sym, ap, ◌∙◌}
+use Rattle.std.proofs.Common.{◌≡◌, ℕ, ◌*◌, ◌/◌, Bool, true, false, List, length, replicate, Option, Some, None, refl, sym, ap, ◌∙◌, arith}
 use Rattle.std.specs.Str.{bytes_eq}
 use Rattle.std.specs.Cmp.Lexicographic.{bytes_decides}
 use Rattle.std.proofs.lemmas.List.{length-replicate}
@@ -51,6 +51,9 @@ same_eq a b false true p q =
 
 pub swapped : (h : HeadData) (a b : List ℕ) (entry : ℕ) → is_booted (state_of h a) b entry ≡ is_booted (state_of h b) a entry
 swapped h a b entry = rw (same_eq a b (bytes_eq a b) (bytes_eq b a) refl refl) refl
+
+pub divided : (len n : ℕ) → len ≡ 4096 * n → len / 4096 ≡ n
+divided len n e = omega (arith, e)
 
 -- the pages of a RAM of zeros
 pub marks : (n k : ℕ) (ram new : RamState) → ram ≡ record { bytes = replicate (4096 * n) 0; dirty = replicate n false } → length new.dirty ≡ length ram.dirty → n ≡ k → k ≡ length new.dirty

@@ -1,2 +1,4 @@
+pub mod Bells
 pub mod Boots
 pub mod Begun
+pub mod Paged

@@ -11,8 +11,8 @@ abbrev pub is_boot_first : List FrameData → Bool
 is_boot_first [] = false
 is_boot_first (f ∷ fs) = f.kind == 1
 
--- the segment begins with BOOT, and its snapshot is the image's initial state under the head's own id, number of steps between
--- snapshots, page count and peers
+-- the segment begins with BOOT, and its snapshot is the image's initial state under the head's version, own id, number
+-- of steps between snapshots, page count and peers
 abbrev pub BeginsAs : List ℕ → Option (SegmentData × HeadData) → Type 0
 BeginsAs image None = ⊥
 BeginsAs image (Some s) = (is_boot_first (entry_frames s.0) ≡ true) × IsImageOf (snapshot s.0 s.1) image

@@ -5,12 +5,13 @@ ghost use Rattle.avm_model.specs.Head.{HeadData};
 ghost use Rattle.avm_model.specs.HeadReading.{head_of};
 ghost use Rattle.avm_model.specs.HeadState.{state_of};
 ghost use Rattle.avm_model.specs.ImageState.{is_image_of};
-ghost use Rattle.avm_model.specs.Segment.{FitsSegment, whole_segment_of};
+ghost use Rattle.avm_model.specs.Segment.{whole_segment_of};
+ghost use Rattle.avm_model.specs.SegmentPages.{HasPages};
 ghost use Rattle.boot_image.specs.Begins.{BeginsAs, is_boot_first as is_boot_first_lem};
 ghost use Rattle.seg_file.specs.Views.{segment_view};
 
 use crate::booted::is_booted;
-use avm_num::{NoMemory, are_bytes};
+use avm_num::NoMemory;
 use log_entry::Frames;
 use rv32_loader::load;
 use rv32_mem::Ram;
@@ -32,11 +33,10 @@ fn is_boot_first(frames: &[u8]) -> bool
 // Whether the segment's snapshot is the image's initial state. No page is copied: the head's machine gets the image's RAM,
 // with which the pages are compared.
 fn is_snapshot_of(alloc: Global, segment: &Segment<'_>, image: &[u8]) -> Result<bool, NoMemory>
-    requires fits { FitsSegment (segment_view segment.now) }
     requires head { IsSome (head_of segment.now.head.now) }
+    requires pages { (h : HeadData) → head_of segment.now.head.now ≡ Some h → HasPages (segment_view segment.now) h }
     ensures { IfOk result (λ is. (h : HeadData) → head_of segment.now.head.now ≡ Some h → is ≡ is_image_of (state_of h segment.now.pages.now) image.now) }
 {
-    are_bytes(segment.head);
     let mut ram = Ram::new(alloc, (segment.pages.len() / 4096) as u32)?;
     match load(&mut ram, image) {
         Ok(entry) => {
@@ -47,8 +47,8 @@ fn is_snapshot_of(alloc: Global, segment: &Segment<'_>, image: &[u8]) -> Result<
     }
 }
 
-/// Whether the bytes are a segment that begins with BOOT, whose snapshot is the image's initial state under the head's own
-/// id, number of steps between snapshots, page count and peers. It is that of no image that is refused.
+/// Whether the bytes are a segment that begins with BOOT, whose snapshot is the image's initial state under the head's version,
+/// own id, number of steps between snapshots, page count and peers. It is that of no image that is refused.
 pub fn begins_as(alloc: Global, segment: &[u8], image: &[u8]) -> Result<bool, NoMemory>
     ensures { IfOk result (λ is. MatchBool is (BeginsAs image.now (whole_segment_of segment.now)) (BeginsAs image.now (whole_segment_of segment.now) → ⊥)) }
 {

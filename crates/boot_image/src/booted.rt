@@ -1,8 +1,9 @@
 // Whether a machine is in the state in which it boots.
 ghost use Rattle.std.specs.Prelude.{◌≡◌};
-ghost use Rattle.avm_model.specs.ImageState.{are_unused as are_unused_lem, is_fresh as is_fresh_lem, is_booted as is_booted_lem};
+ghost use Rattle.avm_model.specs.ImageState.{are_unused as are_unused_lem, is_new as is_new_lem, is_fresh as is_fresh_lem, is_booted as is_booted_lem};
 
-use avm_model::{Peer, Status};
+use crate::pages::has_pages;
+use avm_model::{Bell, Peer, Status};
 use guest_dev::Devices;
 use guest_machine::Machine;
 
@@ -18,9 +19,22 @@ fn are_unused(peers: &[Peer]) -> bool
     true
 }
 
+/// Whether the bell is that of a machine that boots.
+#[tactic(auto, using(crate::proofs::Bells::new_as_shown))]
+fn is_new(devices: &Devices) -> bool
+    ensures { result ≡ is_new_lem devices.now.state.bell }
+{
+    let Bell {
+        vector,
+        saved,
+        state,
+    } = devices.bell();
+    vector == 0 && saved == 0 && state == 0
+}
+
 /// Whether the devices hold nothing.
 fn is_fresh(devices: &Devices) -> bool
-    ensures { result ≡ is_fresh_lem devices.now }
+    ensures { result ≡ is_fresh_lem devices.now.state }
 {
     let regs = devices.regs();
     devices.line().is_empty()
@@ -32,6 +46,7 @@ fn is_fresh(devices: &Devices) -> bool
         && regs.result == 0
         && devices.window().as_slice() == [0; 1024].as_slice()
         && are_unused(devices.peers())
+        && is_new(devices)
 }
 
 /// Whether the machine boots, with this RAM and entry.
@@ -44,5 +59,5 @@ pub fn is_booted(machine: &Machine, ram: &[u8], entry: u32) -> bool
         && hart.pc == entry
         && hart.x.as_slice() == [0; 32].as_slice()
         && is_fresh(machine.devices())
-        && machine.ram().bytes() == ram
+        && has_pages(machine.ram(), ram)
 }

@@ -3,7 +3,7 @@
 
 mod begins;
 mod booted;
-#[cfg(test)]
-mod tests;
+mod pages;
 
 pub use begins::begins_as;
+pub use booted::is_booted;

@@ -9,6 +9,3 @@ mod writing;
 pub use evidence::Evidence;
 pub use reading::read_evidence;
 pub use writing::write_evidence;
-
-#[cfg(test)]
-mod tests;

@@ -1,6 +1,6 @@
 //! The rows of the peers.
 
-ghost use Rattle.std.specs.Prelude.{◌≡◌, ◌<◌, ◌≤◌, ◌-◌, ◌^◌, length, All, IfSome};
+ghost use Rattle.std.specs.Prelude.{◌≡◌, ◌<◌, ◌≤◌, ◌-◌, ◌^◌, length, All, IfSome, IsSome};
 ghost use Rattle.avm_model.specs.Device.{row_of, with_row, sends_one, send_result as send_result_lem, next_number as next_number_lem, find_peer, Counted};
 ghost use Rattle.avm_model.specs.Input.{receives_one, acknowledges};
 
@@ -26,6 +26,8 @@ pub fn row(peers: &[Peer], id: u32) -> Option<Peer>
 pub fn send_result(peers: &[Peer], id: u32, len: u32) -> u32
     ensures value { result ≡ send_result_lem len (row_of peers.now id) }
     ensures bound { result ≤ 3 }
+    ensures sent { result ≡ 0 → len ≤ 1024 }
+    ensures row { result ≡ 0 → IsSome (row_of peers.now id) }
 {
     let Some(row) = row(peers, id) else {
         return 1;
@@ -42,7 +44,9 @@ pub fn send_result(peers: &[Peer], id: u32, len: u32) -> u32
 /// The number of the next message to this id.
 pub fn next_number(peers: &[Peer], id: u32) -> u64
     requires { All (λ p. p.sent < 2 ^ 62 - 1) peers.now }
-    ensures { result ≡ next_number_lem (row_of peers.now id) }
+    ensures value { result ≡ next_number_lem (row_of peers.now id) }
+    ensures first { IsSome (row_of peers.now id) → 1 ≤ result }
+    ensures below { result < 2 ^ 62 }
 {
     match place_of(peers, id) {
         Some(at) => peers[at].sent + 1,

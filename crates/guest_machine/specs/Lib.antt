@@ -1,4 +1,5 @@
 pub mod Board
+pub mod Fields
 pub mod Given
 pub mod Lent
 pub mod LentRam

@@ -1,6 +1,6 @@
 //! The machine: its parts, and what they are between two steps.
 
-ghost use Rattle.std.specs.Prelude.{◌≡◌, true, None};
+ghost use Rattle.std.specs.Prelude.{◌≡◌, true, false, None};
 ghost use Rattle.std.specs.Borrow.{sem};
 ghost use Rattle.avm_model.specs.Bounds.{is_head};
 ghost use Rattle.avm_model.specs.DeviceBounds.{IsDevices};
@@ -15,6 +15,7 @@ use crate::board::Board;
 use crate::snap::next_snap;
 use avm_model::Status;
 use guest_dev::Devices;
+use inst_cache::no_slots;
 use rv32_core::Hart;
 use rv32_mem::Ram;
 use std::marker::Model;
@@ -44,17 +45,19 @@ impl Model for Machine {
 
 impl Machine {
     /// The machine of these parts, with registers 0 and count 0, which runs from `pc` on. The parts are within the bounds
-    /// of a head (docs/FORMATS.md, Head), and no clock is pending.
+    /// of a head (docs/FORMATS.md, Head), no clock is pending, and no return from the handler is asked for.
     pub fn new(devices: Devices, ram: Ram, snap: u32, pc: u32) -> Machine
-        requires bounds { is_head (data_of (initial devices ram.bytes snap pc)) ≡ true }
-        requires clock { devices.clock ≡ None }
-        ensures { result ≡ record { state = initial devices ram.bytes snap pc; dirty = ram.dirty } }
+        requires bounds { is_head (data_of (initial devices.state ram.bytes snap pc)) ≡ true }
+        requires clock { devices.state.clock ≡ None }
+        requires returns { devices.returns ≡ false }
+        ensures { result ≡ record { state = initial devices.state ram.bytes snap pc; dirty = ram.dirty } }
     {
         let hart = Hart { x: [0; 32], pc };
         Machine::resume(devices, ram, snap, hart, 0, Status::Running)
     }
 
-    /// The machine of these parts, which are within the bounds of a head (docs/FORMATS.md, Head); no clock is pending.
+    /// The machine of these parts, which are within the bounds of a head (docs/FORMATS.md, Head); no clock is pending, and
+    /// no return from the handler is asked for.
     pub fn resume(
         devices: Devices,
         ram: Ram,
@@ -63,15 +66,18 @@ impl Machine {
         count: u64,
         status: Status,
     ) -> Machine
-        requires bounds { is_head (data_of (state_from hart ram.bytes devices snap count status)) ≡ true }
-        requires clock { devices.clock ≡ None }
-        ensures { result ≡ record { state = state_from hart ram.bytes devices snap count status; dirty = ram.dirty } }
+        requires bounds { is_head (data_of (state_from hart ram.bytes devices.state snap count status)) ≡ true }
+        requires clock { devices.state.clock ≡ None }
+        requires returns { devices.returns ≡ false }
+        ensures { result ≡ record { state = state_from hart ram.bytes devices.state snap count status; dirty = ram.dirty } }
     {
         let board = Board {
             ram,
             devices,
             sent: None,
             waits: false,
+            touched: true,
+            slots: no_slots(),
         };
         let next_snap = next_snap(snap, count);
         Machine {
@@ -119,7 +125,7 @@ impl Machine {
 
     /// The devices.
     pub fn devices(&self) -> &Devices
-        ensures { result.now ≡ self.now.state.devices }
+        ensures { result.now ≡ record { state = self.now.state.devices; returns = false } }
     {
         self.board.devices()
     }

@@ -3,9 +3,12 @@
 
 mod buffer;
 mod digits;
+mod lanes;
 mod laws;
+mod running;
 mod signing;
 mod types;
+mod values;
 
 pub use laws::chain_equations;
 pub use signing::{candidate, public, sign};

@@ -1,16 +1,26 @@
-ghost use Rattle.std.specs.Prelude.{◌≡◌, ◌≤◌, ◌+◌, ◌*◌, ◌-◌, ◌^◌, ◌∷◌, [], ◌++◌, take, drop, length};
+ghost use Rattle.std.specs.Prelude.{◌≡◌, ◌≤◌, ◌+◌, ◌*◌, take, length};
 ghost use Rattle.std.specs.Option.{option_map};
 ghost use Rattle.std.specs.Int.{w32, from_be_bytes};
-ghost use Rattle.avm_model.specs.LmsTypes.{IsOts, width_of, chains_of};
+ghost use Rattle.avm_model.specs.LmsTypes.{IsOts, chains_of};
 ghost use Rattle.avm_model.specs.LmsDigits.{marked};
-ghost use Rattle.avm_model.specs.LmsOts.{ots_public, ots_signature, candidate_of, candidate_key, digest_of, shown_of, reached_of, compressed, joined, piece_of};
+ghost use Rattle.avm_model.specs.LmsOts.{base_of, ots_public, ots_signature, candidate_of, candidate_key, digest_of, secret, shown_of, compressed, joined};
 ghost use Rattle.avm_num.specs.Room.{with_bytes, left};
 
-use crate::buffer::{put_base, run, run_secret, start, value};
-use crate::digits::{coef_at, marked_of};
-use crate::types::{chains, last_step, width};
+use crate::digits::marked_of;
+use crate::types::chains;
+use crate::values::{compressed, ends, piece, put_values, reached, shown};
 use avm_hash::{Digest, Hasher};
 use avm_num::Room;
+
+/// I and u32 q, which stand at the front of each text that is hashed.
+fn base_bytes(id: &[u8; 16], q: u32) -> [u8; 20]
+    ensures { result ≡ base_of id.now q }
+{
+    let mut base = [0u8; 20];
+    base[..16].copy_from_slice(id);
+    base[16..].copy_from_slice(&q.to_be_bytes());
+    base
+}
 
 /// K, the one-time public key of leaf `q` of the private key with this id and seed (RFC 8554, section 4.3, algorithm 1, with
 /// the private values of appendix A). `ots` is a type of the standard's table, from 1 to 4.
@@ -18,21 +28,24 @@ pub fn public(ots: u32, id: &[u8; 16], q: u32, seed: &Digest) -> Digest
     requires { IsOts ots }
     ensures { result.0 ≡ ots_public ots id.now q seed.now.0 }
 {
-    let mut link = [0u8; 55];
-    put_base(&mut link, id, q);
-    let last = last_step(ots);
+    let base = base_bytes(id, q);
+    compressed(ots, &base, &ends(ots, &base, &seed.0))
+}
+
+/// C, the randomizer, made from the seed as a private value is.
+fn randomizer_of(base: &[u8; 20], seed: &[u8; 32]) -> Digest
+    ensures { result.0 ≡ secret base.now 65533 seed.now }
+{
     let mut hasher = Hasher::new();
-    hasher.update(&link[..20]);
-    hasher.update(&[128, 128]);
-    for i in 0..chains(ots) {
-        run_secret(&mut link, i as u16, &seed.0, last);
-        hasher.update(value(&link));
-    }
+    hasher.update(base);
+    hasher.update(&65533u16.to_be_bytes());
+    hasher.update(&[255]);
+    hasher.update(seed);
     hasher.finish()
 }
 
 /// Q, the digest of a text (RFC 8554, section 4.5).
-fn message_digest(base: &[u8], c: &[u8], text: &[u8]) -> Digest
+fn message_digest(base: &[u8; 20], c: &[u8], text: &[u8]) -> Digest
     ensures { result.0 ≡ digest_of base.now c.now text.now }
 {
     let mut hasher = Hasher::new();
@@ -43,20 +56,14 @@ fn message_digest(base: &[u8], c: &[u8], text: &[u8]) -> Digest
     hasher.finish()
 }
 
-/// Writes what a signature shows of the chains, by the digits of Q and its checksum.
-fn put_chains(ots: u32, link: &mut [u8], seed: &[u8; 32], signed: &[u8; 34], out: &mut Room)
+/// Writes what a signature shows of the chains.
+fn put_chains(ots: u32, base: &[u8; 20], seed: &[u8; 32], signed: &[u8; 34], out: &mut Room)
     requires ots_type { IsOts ots }
-    requires length { length link.old ≡ 55 }
     requires room { 32 * chains_of ots ≤ left out.old }
     ensures left { left out.new + 32 * chains_of ots ≡ left out.old }
-    ensures value { out.new ≡ with_bytes out.old (joined (shown_of ots (take 20 link.old) seed.now signed.now) (chains_of ots)) }
+    ensures value { out.new ≡ with_bytes out.old (joined (shown_of ots base.now seed.now signed.now) (chains_of ots)) }
 {
-    let w = width(ots);
-    for i in 0..chains(ots) {
-        let to = coef_at(signed, i, w);
-        run_secret(link, i as u16, seed, to);
-        out.put(value(link));
-    }
+    put_values(out, &shown(ots, base, seed, signed), chains(ots));
 }
 
 /// Appends the one-time signature of a text at leaf `q` (RFC 8554, section 4.5, algorithm 3). Its C is made from the seed, so a
@@ -68,42 +75,12 @@ pub fn sign(ots: u32, id: &[u8; 16], q: u32, seed: &Digest, text: &[u8], out: &m
     ensures left { left out.new + (36 + 32 * chains_of ots) ≡ left out.old }
     ensures value { out.new ≡ with_bytes out.old (ots_signature ots id.now q seed.now.0 text.now) }
 {
-    let mut link = [0u8; 55];
-    put_base(&mut link, id, q);
-    start(&mut link, 65533, &seed.0);
-    let digest = message_digest(&link[..20], value(&link), text);
+    let base = base_bytes(id, q);
+    let c = randomizer_of(&base, &seed.0);
+    let digest = message_digest(&base, &c.0, text);
     out.put_u32(ots);
-    out.put(value(&link));
-    put_chains(ots, &mut link, &seed.0, &marked_of(ots, &digest.0), out);
-}
-
-/// 32 bytes at a place.
-fn piece(bytes: &[u8], at: usize) -> &[u8]
-    requires { at + 32 ≤ length bytes.now }
-    ensures value { result.now ≡ take 32 (drop at bytes.now) }
-    ensures length { length result.now ≡ 32 }
-{
-    &bytes[at..at + 32]
-}
-
-/// K by the chains that a signature shows.
-fn reached(ots: u32, link: &mut [u8], signed: &[u8; 34], sig: &[u8]) -> Digest
-    requires ots_type { IsOts ots }
-    requires length { length link.old ≡ 55 }
-    requires exact { length sig.now ≡ 36 + 32 * chains_of ots }
-    ensures { result.0 ≡ compressed ots (take 20 link.old) (reached_of ots (take 20 link.old) signed.now sig.now) }
-{
-    let w = width(ots);
-    let last = last_step(ots);
-    let mut hasher = Hasher::new();
-    hasher.update(&link[..20]);
-    hasher.update(&[128, 128]);
-    for i in 0..chains(ots) {
-        let from = coef_at(signed, i, w);
-        run(link, i as u16, piece(sig, 36 + 32 * i), from, last);
-        hasher.update(value(link));
-    }
-    hasher.finish()
+    out.put(&c.0);
+    put_chains(ots, &base, &seed.0, &marked_of(ots, &digest.0), out);
 }
 
 /// K by a signature of this length.
@@ -112,10 +89,10 @@ fn key_by(ots: u32, id: &[u8; 16], q: u32, text: &[u8], sig: &[u8]) -> Digest
     requires exact { length sig.now ≡ 36 + 32 * chains_of ots }
     ensures { result.0 ≡ candidate_key ots id.now q text.now sig.now }
 {
-    let mut link = [0u8; 55];
-    put_base(&mut link, id, q);
-    let digest = message_digest(&link[..20], piece(sig, 4), text);
-    reached(ots, &mut link, &marked_of(ots, &digest.0), sig)
+    let base = base_bytes(id, q);
+    let digest = message_digest(&base, piece(sig, 4), text);
+    let signed = marked_of(ots, &digest.0);
+    compressed(ots, &base, &reached(ots, &base, &signed, sig))
 }
 
 /// The number in big-endian at the front.

@@ -6,6 +6,3 @@ mod signer;
 
 pub use key_file::{KeyFile, put_key, read_key};
 pub use signer::Signer;
-
-#[cfg(test)]
-mod tests;

@@ -7,10 +7,9 @@ ghost use Rattle.avm_num.specs.Room.{with_bytes, left};
 ghost use Rattle.lms_tree.specs.Key.{node_at, key_of, AreNodes};
 
 use crate::building::fill;
-use crate::nodes::{height, leaf_count};
+use crate::nodes::{height, leaf_count, signature_len};
 use avm_hash::Digest;
 use avm_num::{NoMemory, Room};
-use lms_ots::chains;
 use std::alloc::Global;
 use std::marker::Model;
 
@@ -156,7 +155,7 @@ impl LmsKey {
         ensures value { result ≡ 44 + 32 * chains_of self.now.ots + 32 * height_of self.now.lms }
         ensures small { result ≤ 9324 }
     {
-        44 + 32 * chains(self.ots) + 32 * height(self.lms)
+        signature_len(self.lms, self.ots)
     }
 
     /// Appends the signature of a text at leaf `q` (RFC 8554, section 5.4.1, algorithm 5), which is valid under the public key.

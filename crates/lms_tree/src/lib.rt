@@ -9,7 +9,5 @@ mod verifying;
 
 pub use key::{LmsKey, MakeFault};
 pub use laws::node_equations;
+pub use nodes::{leaf_count, signature_len};
 pub use verifying::{is_public_key, verify};
-
-#[cfg(test)]
-mod tests;

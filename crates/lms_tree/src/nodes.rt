@@ -1,10 +1,11 @@
-ghost use Rattle.std.specs.Prelude.{◌≡◌, ◌≤◌, ◌^◌, ◌++◌, ◌∷◌, []};
+ghost use Rattle.std.specs.Prelude.{◌≡◌, ◌≤◌, ◌+◌, ◌*◌, ◌^◌, ◌++◌, ◌∷◌, []};
 ghost use Rattle.std.specs.Int.{w32, to_be_bytes};
 ghost use Rattle.avm_hash.specs.Fed.{Fed};
-ghost use Rattle.avm_model.specs.LmsTypes.{IsLms, height_of};
+ghost use Rattle.avm_model.specs.LmsTypes.{IsLms, IsOts, height_of, chains_of};
 ghost use Rattle.avm_model.specs.LmsTree.{leaf, inner};
 
 use avm_hash::{Digest, Hasher};
+use lms_ots::chains;
 
 /// The height of a tree (RFC 8554, section 5.1, table 2).
 #[tactic(auto, unfolding(avm_model::specs::LmsTypes::height_of))]
@@ -23,7 +24,7 @@ pub fn height(lms: u32) -> usize
     }
 }
 
-/// The number of leaves.
+/// 2^h, the number of leaves of a tree of this type, from 5 to 9.
 #[tactic(auto, unfolding(avm_model::specs::LmsTypes::height_of))]
 pub fn leaf_count(lms: u32) -> usize
     requires { IsLms lms }
@@ -38,6 +39,17 @@ pub fn leaf_count(lms: u32) -> usize
         8 => 1048576,
         _ => 33554432,
     }
+}
+
+/// The length of a signature in bytes, by the types of its tree, from 5 to 9, and of its one-time signature, from 1 to 4 (RFC
+/// 8554, section 5.4).
+pub fn signature_len(lms: u32, ots: u32) -> usize
+    requires lms_type { IsLms lms }
+    requires ots_type { IsOts ots }
+    ensures value { result ≡ 44 + 32 * chains_of ots + 32 * height_of lms }
+    ensures small { result ≤ 9324 }
+{
+    44 + 32 * chains(ots) + 32 * height(lms)
 }
 
 /// A hasher that was fed I, u32 r and a tag.

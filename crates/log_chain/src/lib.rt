@@ -32,6 +32,3 @@ pub fn chain(h: &Digest, frames: Frames<'_>) -> Digest
     }
     top
 }
-
-#[cfg(test)]
-mod tests;

@@ -15,6 +15,3 @@ pub use kinds::Content;
 pub use packet::{Body, ack_body, data_body, is_ack, is_data};
 pub use reading::content;
 pub use writing::put_frame;
-
-#[cfg(test)]
-mod tests;

@@ -39,16 +39,17 @@ put_other bytes page i f n p e low inside differs =
     let both : length (front ++ page) ≡ 4096 * i + 4096 = let l = length-append front page in omega (arith, l, one, p) in
     let a : ℕ = 4096 * f in
     let m : ℕ = 4096 * f + 4096 - 4096 * f in
-    elim (cases_lt f i) [
+    let parts : put_page bytes i page ≡ front ++ page ++ behind = rw p refl in
+    rw parts (elim (cases_lt f i) [
       | inl before ↦
-          let cut : take (a + m) (put_page bytes i page) ≡ take (a + m) bytes =
+          let cut : take (a + m) (front ++ page ++ behind) ≡ take (a + m) bytes =
           take-append-le (a + m) (front ++ page) behind (omega (arith, both)) ∙ take-append-le (a + m) front page (omega (arith, one)) ∙ take-take (a + m) (4096 * i) bytes (omega arith) in
-          sym (drop-take a m (put_page bytes i page)) ∙ ap (drop a) cut ∙ drop-take a m bytes
+          sym (drop-take a m (front ++ page ++ behind)) ∙ ap (drop a) cut ∙ drop-take a m bytes
       | inr past ↦ elim (cases_lt i f) [
         | inl after ↦ ap (take m) (drop-append-drop (4096 * i + 4096) bytes (front ++ page) a (omega arith) both)
         | inr here ↦ absurd (differs (omega arith))
       ]
-    ]
+    ])
 
 -- a page without a mark is not the one that was put
 other : (dirty : List Bool) (i f : ℕ) → i < length dirty → get_or (slice_set dirty i true) f false ≡ false → f ≡ i → ⊥

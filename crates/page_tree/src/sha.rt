@@ -1,11 +1,10 @@
-ghost use Rattle.std.specs.Prelude.{length, ◌≤◌, ◌*◌, ◌≡◌, ◌<◌, ◌+◌, ◌++◌, ◌∷◌, []};
-ghost use Rattle.page_tree.specs.Nodes.{leaves_from};
-ghost use Rattle.avm_model.specs.Pages.{page_of};
+ghost use Rattle.std.specs.Prelude.{◌≡◌, ◌+◌, ◌<◌, ◌++◌, ◌∷◌};
 ghost use Rattle.avm_model.specs.Hash.{hash_of};
 ghost use Rattle.avm_model.specs.Pages.{sha_hashes};
 
 use crate::hash::PageHash;
 use avm_hash::{Digest, Hasher, Steps};
+use lane_kern::leaves_x8;
 use std::sync::ledger::{Blank, Ledger};
 
 /// The hash of a byte and two pieces.
@@ -29,35 +28,12 @@ fn hash_page(page: &[u8; 4096]) -> Digest
     hasher.finish()
 }
 
-/// The bytes as a page.
-fn as_page(bytes: &[u8]) -> &[u8; 4096]
-    requires { length bytes.now ≡ 4096 }
-    ensures { result.now ≡ bytes.now }
+/// Counts eight hashes.
+fn count_eight<L: Ledger>(steps: &mut Steps<L>)
+    ensures { steps.new ≡ steps.old + 8 }
 {
-    match bytes.try_into() {
-        Ok(page) => page,
-        Err(_) => unreachable!(),
-    }
-}
-
-/// A page of several.
-fn page_at(pages: &[u8], k: usize) -> &[u8; 4096]
-    requires { 4096 * k + 4096 ≤ length pages.now }
-    ensures { result.now ≡ page_of pages.now k }
-{
-    as_page(&pages[4096 * k..4096 * k + 4096])
-}
-
-/// The leaves of neighbouring pages.
-#[tactic(auto, using(crate::proofs::Eights::filled, crate::proofs::Eights::filled_all))]
-fn fill_leaves<L: Ledger>(steps: &mut Steps<L>, pages: &[u8], out: &mut [Digest])
-    requires { 4096 * length out.old ≤ length pages.now }
-    ensures value { out.new ≡ leaves_from sha_hashes pages.now 0 (length out.old) }
-    ensures count { steps.new ≡ steps.old + length out.old }
-{
-    for k in 0..out.len() {
+    for _k in 0..8u32 {
         steps.tick();
-        out[k] = hash_page(page_at(pages, k));
     }
 }
 
@@ -92,9 +68,18 @@ impl<L: Ledger> PageHash for ShaPages<L> {
     }
 
     fn leaves(&mut self, pages: &[u8; 32768]) -> [Digest; 8] {
-        let mut all = [Digest([0; 32]); 8];
-        fill_leaves(&mut self.steps, pages, &mut all);
-        all
+        count_eight(&mut self.steps);
+        let [a, b, c, d, e, f, g, h] = leaves_x8(pages);
+        [
+            Digest(a),
+            Digest(b),
+            Digest(c),
+            Digest(d),
+            Digest(e),
+            Digest(f),
+            Digest(g),
+            Digest(h),
+        ]
     }
 
     fn node(&mut self, left: &Digest, right: &Digest) -> Digest {

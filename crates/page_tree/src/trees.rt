@@ -3,8 +3,9 @@ ghost use Rattle.avm_model.specs.Memory.{IsRam};
 ghost use Rattle.avm_model.specs.Pages.{sha_hashes, root_of, depth_of};
 ghost use Rattle.page_tree.specs.Nodes.{IsTree, IsStale, at, blank, dirty_pages};
 
+use crate::building::build_all;
 use crate::hash::PageHash;
-use crate::renew::{build_all, renew_all};
+use crate::renew::renew_all;
 use crate::sha::ShaPages;
 use avm_hash::Digest;
 use avm_num::NoMemory;

@@ -9,6 +9,3 @@ pub use committing::committed;
 pub use log_entry::Body;
 pub use packet::{Packet, read_packet};
 pub use writing::{put_ack, put_data};
-
-#[cfg(test)]
-mod tests;

@@ -1,10 +1,14 @@
 -- The contents that stand in packets are those of SEND and RECV entries.
-use Rattle.std.proofs.Common.{◌≡◌, ℕ, List, Option, Some, None, refl, ap, ◌∙◌}
+use Rattle.std.proofs.Common.{◌≡◌, ℕ, true, List, Option, Some, None, refl, ap, ◌∙◌}
 use Rattle.std.specs.Option.{option_map}
 use Rattle.avm_num.specs.Bytes.{◌>>=◌}
+use Rattle.avm_model.specs.Bounds.{is_head}
+use Rattle.avm_model.specs.HeadState.{data_of}
+use Rattle.avm_model.specs.Machine.{State}
 use Rattle.avm_model.specs.Parts.{count_at}
-use Rattle.avm_model.specs.Packet.{SendData, RecvData, send_behind, send_at, recv_behind, recv_at}
-use Rattle.avm_model.specs.Content.{ContentData, send, recv, content_at, form_of_kind}
+use Rattle.avm_model.specs.Packet.{SendData, RecvData, IsData, IsAck, send_behind, send_at, recv_behind, recv_at}
+use Rattle.avm_model.specs.Content.{ContentData, send, recv, acked, content_at, form_of_kind, FitsContent}
+use Rattle.avm_model.proofs.HeadBounds.{bounded}
 use Rattle.replayer.specs.Messages.{sent_by, came_by}
 
 send_back : (o : Option SendData) → (option_map (λ s. send s.count s.peer s.number s.payload) o >>= sent_by) ≡ o
@@ -36,3 +40,11 @@ sent_from bytes o r e h = h ∙ ap (λ (x : Option ContentData). x >>= sent_by) 
 
 pub came_from : (bytes : List ℕ) (o : Option ContentData) (r : Option RecvData) → o ≡ content_at 5 bytes → r ≡ (o >>= came_by) → r ≡ recv_at bytes
 came_from bytes o r e h = h ∙ ap (λ (x : Option ContentData). x >>= came_by) e ∙ came_is bytes
+
+-- ---- the entry of a packet that is taken
+
+pub fits_recv : (s : State) (bytes : List ℕ) → is_head (data_of s) ≡ true → IsData bytes → FitsContent (recv s.count bytes)
+fits_recv s bytes head packet = record { count = (bounded (data_of s) head).count; packet = packet }
+
+pub fits_acked : (s : State) (bytes : List ℕ) → is_head (data_of s) ≡ true → IsAck bytes → FitsContent (acked s.count bytes)
+fits_acked s bytes head packet = ((bounded (data_of s) head).count, packet)

@@ -6,6 +6,7 @@ use Rattle.avm_model.specs.Pages.{sha_hashes}
 use Rattle.avm_model.specs.Rerun.{Stand}
 use Rattle.avm_model.specs.Reference.{Made}
 use Rattle.avm_model.specs.declared.Digest.{Digest}
+use Rattle.guest_machine.specs.Outs.{IsOuts}
 use Rattle.page_tree.specs.Nodes.{IsStale}
 use Rattle.replayer.specs.Pending.{stand_of, ram_of}
 use Rattle.replayer.specs.declared.replay.Replay.TheInside.{Inside}
@@ -20,6 +21,7 @@ abbrev pub replaying_of : Inside → Replaying
 replaying_of r = record
     { stand = stand_of r.machine.state r.pending; dirty = r.machine.dirty; nodes = r.tree; fault = r.fault }
 
--- the tree is one that can be renewed
+-- the tree is one that can be renewed, and the pending outputs are those of a step
 pub record IsReplay (r : Inside) : Type 0 where
   pub stale : IsStale sha_hashes (ram_of r.machine) r.tree
+  pub fits : IsOuts r.pending

@@ -1,5 +1,6 @@
 -- Inputs that are offered to a machine.
 use Rattle.std.specs.Prelude.{ℕ, List, Option, Some, None, Result, Ok, Err}
+use Rattle.avm_model.specs.Content.{ContentData, recv, acked}
 use Rattle.avm_model.specs.declared.NotTaken.{NotTaken}
 use Rattle.avm_model.specs.Machine.{MachineState}
 use Rattle.avm_model.specs.Offer.{Offer, OfferData, OfferAck, taken}
@@ -14,6 +15,11 @@ machine_taken m o = record { state = taken m.state o; dirty = m.dirty }
 abbrev pub offered_of : Offered → List ℕ → Offer
 offered_of Recv bytes = OfferData bytes
 offered_of Acked bytes = OfferAck bytes
+
+-- the content of the entry that logs it
+abbrev pub content_offered : ℕ → Offered → List ℕ → ContentData
+content_offered count Recv bytes = recv count bytes
+content_offered count Acked bytes = acked count bytes
 
 -- the refusal that an answer tells
 abbrev pub offer_refusal : Result Offered NotTaken → Option NotTaken

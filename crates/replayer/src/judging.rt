@@ -6,6 +6,7 @@ ghost use Rattle.avm_model.specs.Judge.{judge as judge_lem, settled as settled_l
 ghost use Rattle.avm_model.specs.Pages.{sha_hashes};
 ghost use Rattle.avm_model.specs.Reference.{timed, entry_of_content, SnapAt};
 ghost use Rattle.log_entry.specs.Views.{content_view};
+ghost use Rattle.guest_machine.specs.Outs.{IsOuts};
 ghost use Rattle.page_tree.specs.Nodes.{IsStale};
 ghost use Rattle.replayer.specs.Pending.{pending_of, stand_of, ram_of};
 
@@ -43,10 +44,12 @@ fn match_snap(
     root: &[u8; 32],
 ) -> bool
     requires stale { IsStale sha_hashes (ram_of machine.old) tree.old }
+    requires fits { IsOuts pending.old }
     ensures judged { MatchBool result (compare timed (SnapAt count root.now) machine.old.state (pending_of machine.old.state pending.old) ≡ Some (stand_of machine.new.state pending.new))
         (compare timed (SnapAt count root.now) machine.old.state (pending_of machine.old.state pending.old) ≡ None) }
     ensures state { machine.new.state ≡ machine.old.state }
     ensures stale { IsStale sha_hashes (ram_of machine.new) tree.new }
+    ensures fits { IsOuts pending.new }
 {
     if pending.line.len != 0 || pending.sent.is_some() || pending.halt.is_some() || !pending.snap {
         return false;
@@ -61,9 +64,11 @@ fn match_snap(
 /// Judges an entry where the machine has made the steps up to it.
 fn settled(machine: &mut Machine, tree: &mut Tree, pending: &mut Outs, content: Content<'_>) -> bool
     requires stale { IsStale sha_hashes (ram_of machine.old) tree.old }
+    requires fits { IsOuts pending.old }
     ensures judged { MatchBool result (settled_lem timed (entry_of_content (content_view content.entry)) (stand_of machine.old.state pending.old) ≡ Some (stand_of machine.new.state pending.new))
         (settled_lem timed (entry_of_content (content_view content.entry)) (stand_of machine.old.state pending.old) ≡ None) }
     ensures stale { IsStale sha_hashes (ram_of machine.new) tree.new }
+    ensures fits { IsOuts pending.new }
     ensures count { machine.new.state.count ≡ machine.old.state.count }
 {
     match content {
@@ -117,9 +122,11 @@ pub fn judge(
 ) -> bool
     requires count { count_of_lem (content_view content) < 2 ^ 62 }
     requires stale { IsStale sha_hashes (ram_of machine.old) tree.old }
+    requires fits { IsOuts pending.old }
     ensures judged { MatchBool result (judge_lem timed (stand_of machine.old.state pending.old) (entry_of_content (content_view content.entry)) ≡ Some (stand_of machine.new.state pending.new))
         (judge_lem timed (stand_of machine.old.state pending.old) (entry_of_content (content_view content.entry)) ≡ None) }
     ensures stale { IsStale sha_hashes (ram_of machine.new) tree.new }
+    ensures fits { IsOuts pending.new }
     ensures short { machine.new.state.count ≤ machine.old.state.count + machine.old.state.snap }
 {
     settle(machine, pending, count_of(&content));

@@ -15,6 +15,5 @@ pub use guest_machine::NotTaken;
 pub use offering::{Offered, offer};
 pub use replay::{Fault, Replay};
 pub use signed::authentic;
-
-#[cfg(test)]
-mod tests;
+pub use snapshot::root_now;
+pub use taking::{Incoming, take_at};

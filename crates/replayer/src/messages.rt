@@ -1,7 +1,7 @@
 //! The packets that come in, with the messages in them.
 
 ghost use Rattle.std.specs.Prelude.{◌≡◌, option_map, IfSome};
-ghost use Rattle.avm_model.specs.Packet.{send_at, recv_at, FitsSend};
+ghost use Rattle.avm_model.specs.Packet.{send_at, recv_at, FitsSend, IsData, IsAck};
 ghost use Rattle.avm_model.specs.Offer.{data_in as data_in_lem, ack_in as ack_in_lem};
 ghost use Rattle.log_entry.specs.Views.{content_view};
 ghost use Rattle.replayer.specs.Messages.{message_view, received_view, data_view, ack_view, sent_by, came_by};
@@ -101,6 +101,7 @@ fn recv_content<'a>(bytes: &'a [u8]) -> Option<Received<'a>>
 pub fn data_in<'a>(bytes: &'a [u8]) -> Option<DataPacket<'a>>
     ensures value { option_map data_view result ≡ data_in_lem bytes.now }
     ensures fits { IfSome result (λ d. FitsSend (data_view d).message) }
+    ensures packet { IfSome result (λ _. IsData bytes.now) }
 {
     let body = data_body(bytes)?;
     let message = send_content(body.content)?;
@@ -111,6 +112,7 @@ pub fn data_in<'a>(bytes: &'a [u8]) -> Option<DataPacket<'a>>
 pub fn ack_in<'a>(bytes: &'a [u8]) -> Option<AckPacket<'a>>
     ensures value { option_map ack_view result ≡ ack_in_lem bytes.now }
     ensures fits { IfSome result (λ a. FitsSend (ack_view a).inner.message) }
+    ensures packet { IfSome result (λ _. IsAck bytes.now) }
 {
     let body = ack_body(bytes)?;
     let received = recv_content(body.content)?;

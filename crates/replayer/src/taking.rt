@@ -56,9 +56,9 @@ fn take_any(machine: &mut Machine, input: Incoming<'_>) -> Result<(), NotTaken>
     }
 }
 
-/// Takes an input, or refuses it and leaves the machine.
+/// Takes an input of a log, or refuses it and leaves the machine.
 #[tactic(auto, unfolding(avm_model::specs::Reference::take_of))]
-fn take_at(machine: &mut Machine, count: u64, input: Incoming<'_>) -> bool
+pub fn take_at(machine: &mut Machine, count: u64, input: Incoming<'_>) -> bool
     ensures taken { MatchBool result (take_of machine.old.state (given_at count input.entry) ≡ Some machine.new.state) (take_of machine.old.state (given_at count input.entry) ≡ None) }
     ensures ram { ram_of machine.new ≡ ram_of machine.old }
     ensures count { machine.new.state.count ≡ machine.old.state.count }

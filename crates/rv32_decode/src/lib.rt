@@ -11,6 +11,3 @@ mod words;
 pub use avm_model::{BranchOp, ImmOp, Inst, LoadOp, MulOp, RegOp, StoreOp};
 pub use from_word::decode;
 pub use to_word::encode;
-
-#[cfg(test)]
-mod tests;

@@ -1,8 +1,9 @@
 -- What is put behind what was put stands with it.
-use Rattle.std.proofs.Common.{◌≡◌, ℕ, ◌+◌, ◌-◌, ◌^◌, ◌≤◌, List, ◌++◌, length, take, drop, refl, sym, ap, ap₂, ◌∙◌, append_assoc, arith}
+use Rattle.std.proofs.Common.{◌≡◌, ℕ, ◌+◌, ◌-◌, ◌^◌, ◌≤◌, Bool, List, ◌++◌, length, take, drop, refl, sym, ap, ap₂, ◌∙◌, append_assoc, arith}
 use Rattle.std.proofs.lemmas.List.{take_at, drop_at, drop-drop, length-append, length-take-le}
 use Rattle.std.proofs.lemmas.Bool.{eq-eqb, le-leb}
-use Rattle.avm_model.specs.Memory.{put_at}
+use Rattle.avm_model.specs.Memory.{put_at, marked_range}
+use Rattle.rv32_loader.specs.Marking.{mark_segment}
 use Rattle.avm_model.specs.Image.{segment_bytes, put_segment}
 use Rattle.avm_model.specs.declared.loading.ProgramHeader.{ProgramHeader}
 
@@ -26,3 +27,6 @@ put_both ram x y at n fits is =
 
 pub put_loaded : (file ram : List ℕ) (h : ProgramHeader) → h.kind ≡ 1 → 1 ≤ h.memory_size → put_at ram (h.address - 2 ^ 31) (segment_bytes file h) ≡ put_segment file ram h
 put_loaded file ram h load some = rw (eq-eqb h.kind 1 load, le-leb 1 h.memory_size some) refl
+
+pub mark_loaded : (dirty : List Bool) (h : ProgramHeader) → h.kind ≡ 1 → 1 ≤ h.memory_size → marked_range (marked_range dirty (h.address - 2 ^ 31) h.file_size) (h.address - 2 ^ 31 + h.file_size) (h.memory_size - h.file_size) ≡ mark_segment dirty h
+mark_loaded dirty h load some = rw (eq-eqb h.kind 1 load, le-leb 1 h.memory_size some) refl

@@ -5,8 +5,6 @@ mod header;
 mod inspection;
 mod loading;
 mod place;
-#[cfg(test)]
-mod tests;
 
 pub use avm_model::LoadFault;
 pub use inspection::inspect;

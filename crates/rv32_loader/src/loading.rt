@@ -1,9 +1,10 @@
 //! An image is judged whole, and then put into RAM.
 
-ghost use Rattle.std.specs.Prelude.{◌≡◌, ◌≤◌, ◌<◌, ◌+◌, ◌*◌, ◌^◌, length, false, IsTrue, IfNone, IfOk, MatchResult, Some, None};
+ghost use Rattle.std.specs.Prelude.{◌≡◌, ◌≤◌, ◌<◌, ◌+◌, ◌*◌, ◌^◌, length, false, IsTrue, IfNone, IfOk, OnOk, MatchResult, Some, None};
 ghost use Rattle.avm_model.specs.Basics.{first_at};
 ghost use Rattle.avm_model.specs.Image.{headers_at, headers_of, is_bad, is_outside, is_entry, place_fault as place_fault_lem, load_fault, put_segments, loaded, entry_of};
 ghost use Rattle.rv32_loader.specs.File.{IsElfFile};
+ghost use Rattle.rv32_loader.specs.Marking.{mark_segments, loaded_marks};
 
 use crate::header::{half, read_header, word};
 use crate::inspection::{begins_elf, file_fault};
@@ -66,6 +67,7 @@ fn put_each(ram: &mut Ram, file: &[u8], at: usize, count: u32)
     requires ram { length ram.old.bytes ≤ 2 ^ 24 }
     ensures bytes { ram.new.bytes ≡ put_segments file.now ram.old.bytes (headers_at file.now at count) }
     ensures len { length ram.new.bytes ≡ length ram.old.bytes }
+    ensures marks { ram.new.dirty ≡ mark_segments ram.old.dirty (headers_at file.now at count) }
     ensures pages { length ram.new.dirty ≡ length ram.old.dirty }
 {
     for i in 0..count {
@@ -74,12 +76,13 @@ fn put_each(ram: &mut Ram, file: &[u8], at: usize, count: u32)
 }
 
 /// Puts an image into RAM, which is to hold zeros, and gives its entry. It is refused by the first fault that applies
-/// (docs/FORMATS.md, "Images"), and then RAM stays as it was.
+/// (docs/FORMATS.md, "Images"), and then RAM stays as it was. It marks the pages in which it puts bytes.
 #[tactic(auto, unfolding(avm_model::specs::Image::headers_of))]
 pub fn load(ram: &mut Ram, image: &[u8]) -> Result<u32, LoadFault>
     ensures fault { MatchResult result (λ _. load_fault (length ram.old.bytes) image.now ≡ None) (λ fault. load_fault (length ram.old.bytes) image.now ≡ Some fault) }
     ensures entry { IfOk result (λ entry. entry ≡ entry_of image.now) }
     ensures bytes { MatchResult result (λ _. ram.new.bytes ≡ loaded ram.old.bytes image.now) (λ _. ram.new ≡ ram.old) }
+    ensures marks { OnOk result (ram.new.dirty ≡ loaded_marks ram.old.dirty image.now) }
     ensures pages { length ram.new.dirty ≡ length ram.old.dirty }
 {
     let len = ram.bytes().len();

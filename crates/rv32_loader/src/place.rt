@@ -2,6 +2,7 @@
 
 ghost use Rattle.std.specs.Prelude.{◌≡◌, ◌≤◌, ◌+◌, ◌^◌, length, false, slice_range, IsTrue};
 ghost use Rattle.avm_model.specs.Image.{is_load, is_bad, is_outside, put_segment};
+ghost use Rattle.rv32_loader.specs.Marking.{mark_segment};
 
 use avm_model::ProgramHeader;
 use rv32_mem::Ram;
@@ -30,6 +31,7 @@ pub fn put_one(ram: &mut Ram, file: &[u8], header: ProgramHeader)
     requires ram { length ram.old.bytes ≤ 2 ^ 24 }
     ensures bytes { ram.new.bytes ≡ put_segment file.now ram.old.bytes header }
     ensures len { length ram.new.bytes ≡ length ram.old.bytes }
+    ensures marks { ram.new.dirty ≡ mark_segment ram.old.dirty header }
     ensures pages { length ram.new.dirty ≡ length ram.old.dirty }
 {
     if header.kind == 1 && header.memory_size >= 1 {

@@ -2,7 +2,5 @@
 #![tactic(auto)]
 
 mod ram;
-#[cfg(test)]
-mod tests;
 
 pub use ram::Ram;

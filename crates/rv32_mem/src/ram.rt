@@ -1,9 +1,10 @@
 //! RAM.
 
-ghost use Rattle.std.specs.Prelude.{◌≡◌, ◌<◌, ◌≤◌, ◌+◌, ◌-◌, ◌*◌, ◌^◌, length, IsTrue, is_some, slice_get, slice_set, slice_range, replicate, Some, IfSome, IfOk, true, false};
+ghost use Rattle.std.specs.Prelude.{◌≡◌, ◌↔◌, ◌<◌, ◌≤◌, ◌+◌, ◌-◌, ◌*◌, ◌^◌, length, IsTrue, is_some, slice_get, slice_set, slice_range, replicate, Some, IfSome, IfOk, true, false};
 ghost use Rattle.avm_model.specs.Memory.{RamState, IsRam, place_in, number_at, with_number, ram_load, ram_store, stored_ram, IsSize, is_page_count, put_at, put_page, marked_from, marked_range};
 
 use avm_num::NoMemory;
+use lane_kern::{same_page, zero_page};
 use std::alloc::Global;
 use std::marker::Model;
 
@@ -86,6 +87,22 @@ impl Ram {
     {
         let start = i as usize * PAGE;
         as_page(&self.bytes[start..start + PAGE])
+    }
+
+    /// Whether page `i` is all zeros.
+    pub fn is_zero(&self, i: u32) -> bool
+        requires { i < length self.now.dirty }
+        ensures { IsTrue result ↔ slice_range self.now.bytes (4096 * i) (4096 * i + 4096) ≡ replicate 4096 0 }
+    {
+        zero_page(self.page(i))
+    }
+
+    /// Whether page `i` has these bytes.
+    pub fn is_page(&self, i: u32, page: &[u8; 4096]) -> bool
+        requires { i < length self.now.dirty }
+        ensures { IsTrue result ↔ slice_range self.now.bytes (4096 * i) (4096 * i + 4096) ≡ page.now }
+    {
+        same_page(self.page(i), page)
     }
 
     /// Puts a page in place of page `i`, and marks it.

@@ -1,1 +1,7 @@
 pub mod Views
+pub mod Coming
+pub mod Places
+pub mod Held
+pub mod Fronts
+pub mod Filling
+pub mod Reading

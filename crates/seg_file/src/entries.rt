@@ -17,7 +17,8 @@ fn is_zero(bytes: &[u8]) -> bool
     true
 }
 
-fn may_begin(start: u64, before: &[u8], kind: u8) -> bool
+/// Whether an entry of this kind may be the first.
+pub fn may_begin(start: u64, before: &[u8], kind: u8) -> bool
     ensures { result ≡ begins start before.now kind }
 {
     if start == 1 {
@@ -28,7 +29,7 @@ fn may_begin(start: u64, before: &[u8], kind: u8) -> bool
 }
 
 /// So many SNAP entries, and this entry.
-fn with_entry(snaps: u64, kind: u8) -> u64
+pub fn with_entry(snaps: u64, kind: u8) -> u64
     requires { snaps ≤ 64 }
     ensures { result ≡ snaps + flag (kind == 2) }
 {

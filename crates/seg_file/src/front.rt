@@ -1,7 +1,10 @@
+ghost use Rattle.std.specs.Prelude.{◌≡◌};
 ghost use Rattle.std.specs.Int.{w32};
+ghost use Rattle.std.specs.Option.{option_map};
 ghost use Rattle.avm_num.specs.Bytes.{Takes, number_at};
 ghost use Rattle.avm_num.specs.Lists.{sized_at};
 ghost use Rattle.avm_model.specs.Segment.{segment_front_at};
+ghost use Rattle.seg_file.specs.Fronts.{counted_at, counted_view};
 ghost use Rattle.seg_file.specs.Views.{front_view};
 
 use avm_model::Digest;
@@ -24,6 +27,13 @@ pub struct Front<'a> {
     pub start: u64,
     pub before: Digest,
     pub head: &'a [u8],
+}
+
+/// The same, with the page count that the head says.
+#[derive(Clone, Copy)]
+pub struct Counted<'a> {
+    pub front: Front<'a>,
+    pub pages: u32,
 }
 
 /// A length of four bytes, and that many bytes.
@@ -57,4 +67,19 @@ pub fn take_front<'a>(view: &mut View<'a>) -> Option<Front<'a>>
         before: Digest(before),
         head,
     })
+}
+
+/// What stands before the pages, with the page count that its head says.
+#[tactic(auto, unfolding(crate::specs::Fronts::counted_at))]
+pub fn read_front(part: &[u8]) -> Option<Counted<'_>>
+    ensures { option_map counted_view result ≡ counted_at part.now }
+{
+    let mut view = View::new(part);
+    let front = take_front(&mut view)?;
+    if front.head.len() < 6 {
+        return None;
+    }
+    let mut number = View::new(&front.head[6..]);
+    let pages = number.take_u32()?;
+    Some(Counted { front, pages })
 }

@@ -2,13 +2,16 @@
 #![tactic(auto)]
 
 mod entries;
+mod filling;
 mod front;
+mod place;
+mod reader;
 mod reading;
+mod store;
 mod writing;
 
+pub use filling::Part;
 pub use front::Segment;
+pub use reader::SegReader;
 pub use reading::read_segment;
 pub use writing::put_front;
-
-#[cfg(test)]
-mod tests;

@@ -1,5 +1,5 @@
 -- One item more of a queue, written behind the others.
-use Rattle.std.proofs.Common.{◌≡◌, ℕ, ◌+◌, ◌≤◌, List, [], ◌∷◌, length, drop, Some, None, ◌&&◌, nat_le, IsTrue, sym, ap, ◌∙◌, arith, zero, suc}
+use Rattle.std.proofs.Common.{◌≡◌, ℕ, ◌+◌, ◌≤◌, List, [], ◌∷◌, length, drop, Some, None, ◌&&◌, nat_le, IsTrue, sym, ap, ◌∙◌, arith, append-nil, zero, suc}
 use Rattle.std.specs.Prelude.{slice_get}
 use Rattle.std.proofs.lemmas.Bool.{and_parts, leb-true}
 use Rattle.avm_num.specs.Room.{Buffer, with_bytes}
@@ -9,7 +9,7 @@ use Rattle.avm_model.specs.Device.{MessageState}
 use Rattle.avm_model.specs.declared.Peer.{Peer}
 use Rattle.avm_model.specs.Bounds.{are_messages, knows}
 use Rattle.avm_model.specs.Head.{message_bytes}
-use Rattle.snap_state.specs.Sizes.{messages_size}
+use Rattle.avm_model.specs.Sizes.{messages_size}
 
 pub from_place : {X : Type 0} (xs : List X) (i : ℕ) (x : X) → slice_get xs i ≡ Some x → drop i xs ≡ x ∷ drop (i + 1) xs
 from_place [] i x e = absurd cc
@@ -20,6 +20,9 @@ pub nothing_past : {X : Type 0} (xs : List X) (i : ℕ) → slice_get xs i ≡ N
 nothing_past [] i e = omega arith
 nothing_past (y ∷ xs) zero e = absurd cc
 nothing_past (y ∷ xs) (suc i) e = let low = nothing_past xs i e in omega (arith, low)
+
+pub nothing_put : (out : Buffer) → out ≡ with_bytes out []
+nothing_put out = ap (λ (bytes : List ℕ). record out { bytes = bytes }) (sym (append-nil out.bytes))
 
 pub byte_put : (out : Buffer) (xs : List ℕ) (i b : ℕ) → slice_get xs i ≡ Some b → with_bytes (with_bytes out (one b)) (drop (i + 1) xs) ≡ with_bytes out (drop i xs)
 unfolding one

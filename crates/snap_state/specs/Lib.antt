@@ -1,3 +1,2 @@
 pub mod Passed
 pub mod Views
-pub mod Sizes

@@ -24,4 +24,4 @@ abbrev pub transmit_view : TransmitParts → TransmitData
 transmit_view t = record { peer = t.peer; len = t.len; result = t.result; window = t.window.now }
 
 abbrev pub head_view : HeadParts → HeadData
-head_view h = record { front = front_view h.front; hart = hart_view h.hart; queues = queues_view h.queues; transmit = transmit_view h.transmit }
+head_view h = record { front = front_view h.front; hart = hart_view h.hart; queues = queues_view h.queues; transmit = transmit_view h.transmit; bell = h.bell }

@@ -6,6 +6,7 @@ use crate::peers::Peers;
 use avm_model::Peer;
 use avm_num::View;
 
+#[tactic(auto, unfolding(avm_model::specs::LmsValid::has_types))]
 fn key_fits(key: &[u8; 56]) -> bool
     ensures { result ≡ is_key key.now }
 {

@@ -6,7 +6,7 @@ ghost use Rattle.avm_num.specs.Room.{with_bytes, left};
 use std::marker::Model;
 
 /// The length of the longest head.
-const MOST: usize = 11774;
+const MOST: usize = 11783;
 
 /// A head while it is written, on the stack: seen as its bytes, with room for the longest head.
 #[derive(Drop)]
@@ -21,16 +21,16 @@ impl Model for Draft {
 
     ghost Value = { Buffer };
 
-    ghost view = { λ d. record { bytes = take d.len d.store; capacity = 11774 } };
+    ghost view = { λ d. record { bytes = take d.len d.store; capacity = 11783 } };
 
-    ghost invariant = { λ d. d.len ≤ 11774 };
+    ghost invariant = { λ d. d.len ≤ 11783 };
 }
 
 impl Draft {
     #[tactic(auto, unfolding(avm_num::specs::Room::left))]
     pub fn new() -> Draft
-        ensures value { result ≡ record { bytes = []; capacity = 11774 } }
-        ensures room { left result ≡ 11774 }
+        ensures value { result ≡ record { bytes = []; capacity = 11783 } }
+        ensures room { left result ≡ 11783 }
     {
         Draft {
             store: [0; MOST],
@@ -40,7 +40,7 @@ impl Draft {
 
     pub fn bytes(&self) -> &[u8]
         ensures value { result.now ≡ self.now.bytes }
-        ensures short { length self.now.bytes ≤ 11774 }
+        ensures short { length self.now.bytes ≤ 11783 }
     {
         &self.store[..self.len]
     }

@@ -1,8 +1,9 @@
 ghost use Rattle.std.specs.Prelude.{◌≡◌, ◌<◌, ◌^◌, drop, length, slice_index};
 ghost use Rattle.std.specs.List.{AllByRecursion};
-ghost use Rattle.avm_model.specs.Head.{FitsPeer, FitsFront, FitsHart, FitsQueues, FitsTransmit, FitsHead};
+ghost use Rattle.avm_model.specs.Head.{FitsPeer, FitsFront, FitsHart, FitsQueues, FitsTransmit, FitsBell, FitsHead};
 ghost use Rattle.avm_model.specs.HeadState.{data_of};
 
+use crate::writing::bell_of;
 use avm_model::Peer;
 use guest_dev::Devices;
 use guest_machine::Machine;
@@ -88,10 +89,10 @@ fn hart_fits(machine: &Machine)
 }
 
 fn regs_fit(devices: &Devices)
-    ensures latch { devices.now.latch < 2 ^ 32 }
-    ensures peer { devices.now.tx_peer < 2 ^ 32 }
-    ensures len { devices.now.tx_len < 2 ^ 32 }
-    ensures result { devices.now.tx_result < 2 ^ 32 }
+    ensures latch { devices.now.state.latch < 2 ^ 32 }
+    ensures peer { devices.now.state.tx_peer < 2 ^ 32 }
+    ensures len { devices.now.state.tx_len < 2 ^ 32 }
+    ensures result { devices.now.state.tx_result < 2 ^ 32 }
 {
     let regs = devices.regs();
     is_word(regs.latch);
@@ -100,7 +101,7 @@ fn regs_fit(devices: &Devices)
     is_word(regs.result);
 }
 
-#[tactic(auto, using(crate::proofs::HeadBounds::messages_fit))]
+#[tactic(auto, using(avm_model::proofs::HeadBounds::messages_fit))]
 fn queues_fit(machine: &Machine)
     ensures { FitsQueues (data_of machine.now.state).queues }
 {
@@ -113,7 +114,7 @@ fn is_window(window: &[u8; 1024])
 {}
 
 fn window_fits(devices: &Devices)
-    ensures { length devices.now.window ≡ 1024 }
+    ensures { length devices.now.state.window ≡ 1024 }
 {
     is_window(devices.window());
 }
@@ -126,6 +127,15 @@ fn transmit_fits(machine: &Machine)
     window_fits(devices);
 }
 
+fn bell_fits(devices: &Devices)
+    ensures { FitsBell devices.now.state.bell }
+{
+    if let Some(bell) = bell_of(devices) {
+        is_word(bell.vector);
+        is_word(bell.saved);
+    }
+}
+
 pub fn head_fits(machine: &Machine)
     ensures { FitsHead (data_of machine.now.state) }
 {
@@ -133,4 +143,5 @@ pub fn head_fits(machine: &Machine)
     hart_fits(machine);
     queues_fit(machine);
     transmit_fits(machine);
+    bell_fits(machine.devices());
 }

@@ -3,8 +3,9 @@ ghost use Rattle.std.specs.Option.{option_map};
 ghost use Rattle.std.specs.Int.{w16};
 ghost use Rattle.avm_num.specs.Bytes.{Takes, byte_at, number_at};
 ghost use Rattle.avm_num.specs.Lists.{sized_at};
+ghost use Rattle.avm_model.specs.Bell.{is_bell};
 ghost use Rattle.avm_model.specs.Bounds.{is_head, is_front, is_hart, are_queues, suits};
-ghost use Rattle.avm_model.specs.HeadReading.{status_at, front_at, hart_at, queues_at, transmit_at, parts_at, head_of};
+ghost use Rattle.avm_model.specs.HeadReading.{status_at, front_at, hart_at, queues_at, transmit_at, version_at, words_at, bell_at, parts_at, head_of};
 ghost use Rattle.avm_model.specs.Head.{HeadData, FitsHead, head_bytes};
 ghost use Rattle.snap_state.specs.Views.{front_view, hart_view, queues_view, transmit_view, head_view};
 
@@ -12,7 +13,7 @@ use crate::bounds::{has_line_end, messages_fit, none_sent_past, rows_fit};
 use crate::messages::{Messages, take_messages};
 use crate::peers::{Peers, take_peers};
 use crate::words::{take_registers, take_u16};
-use avm_model::Status;
+use avm_model::{Bell, Status};
 use avm_num::{View, are_bytes};
 
 #[derive(Drop)]
@@ -54,6 +55,7 @@ pub struct HeadParts<'a> {
     pub hart: HartParts,
     pub queues: QueuesParts<'a>,
     pub transmit: TransmitParts<'a>,
+    pub bell: Option<Bell>,
 }
 
 #[tactic(auto, unfolding(avm_model::specs::HeadReading::front_at))]
@@ -61,9 +63,6 @@ fn take_front<'a>(view: &mut View<'a>) -> Option<FrontParts<'a>>
     ensures { Takes front_view result view.old view.new (front_at view.old) }
 {
     let mut rest = View::new(view.rest());
-    if rest.take_u8()? != 1 {
-        return None;
-    }
     let own = rest.take_u8()?;
     let snap = rest.take_u32()?;
     let pages = rest.take_u32()?;
@@ -178,21 +177,65 @@ fn take_transmit<'a>(view: &mut View<'a>) -> Option<TransmitParts<'a>>
     })
 }
 
+#[tactic(auto, unfolding(avm_model::specs::HeadReading::version_at))]
+fn take_version(view: &mut View<'_>) -> Option<u8>
+    ensures { Takes (λ v. v) result view.old view.new (version_at view.old) }
+{
+    let mut rest = View::new(view.rest());
+    let version = rest.take_u8()?;
+    if version != 1 && version != 2 {
+        return None;
+    }
+    *view = rest;
+    Some(version)
+}
+
+#[tactic(auto, unfolding(avm_model::specs::HeadReading::words_at))]
+fn take_words(view: &mut View<'_>) -> Option<Bell>
+    ensures { Takes (λ b. b) result view.old view.new (words_at view.old) }
+{
+    let mut rest = View::new(view.rest());
+    let vector = rest.take_u32()?;
+    let saved = rest.take_u32()?;
+    let state = rest.take_u8()?;
+    *view = rest;
+    Some(Bell {
+        vector,
+        saved,
+        state,
+    })
+}
+
+/// The bell, which version 1 does not have.
+#[tactic(auto, unfolding(avm_model::specs::HeadReading::bell_at))]
+fn take_bell(view: &mut View<'_>, version: u8) -> Option<Option<Bell>>
+    ensures { Takes (λ b. b) result view.old view.new (bell_at version view.old) }
+{
+    if version != 2 {
+        return Some(None);
+    }
+    let bell = take_words(view)?;
+    Some(Some(bell))
+}
+
 #[tactic(auto, unfolding(avm_model::specs::HeadReading::parts_at))]
 fn take_parts<'a>(view: &mut View<'a>) -> Option<HeadParts<'a>>
     ensures { Takes head_view result view.old view.new (parts_at view.old) }
 {
     let mut rest = View::new(view.rest());
+    let version = take_version(&mut rest)?;
     let front = take_front(&mut rest)?;
     let hart = take_hart(&mut rest)?;
     let queues = take_queues(&mut rest)?;
     let transmit = take_transmit(&mut rest)?;
+    let bell = take_bell(&mut rest, version)?;
     *view = rest;
     Some(HeadParts {
         front,
         hart,
         queues,
         transmit,
+        bell,
     })
 }
 
@@ -227,6 +270,15 @@ fn status_suits(status: Status, queues: &QueuesParts<'_>) -> bool
     }
 }
 
+fn bell_fits(bell: Option<Bell>) -> bool
+    ensures { result ≡ is_bell bell }
+{
+    match bell {
+        None => true,
+        Some(bell) => bell.vector % 4 == 0 && bell.saved % 4 == 0 && bell.state <= 2,
+    }
+}
+
 #[tactic(auto, unfolding(avm_model::specs::Bounds::is_head))]
 fn parts_fit(head: &HeadParts<'_>) -> bool
     ensures { result ≡ is_head (head_view head.now) }
@@ -238,6 +290,7 @@ fn parts_fit(head: &HeadParts<'_>) -> bool
         && queues_fit(&head.front.peers, &head.queues)
         && status_suits(head.hart.status, &head.queues)
         && head.transmit.result <= 3
+        && bell_fits(head.bell)
 }
 
 /// The parts of a head, or none where the bytes are none.

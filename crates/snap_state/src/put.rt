@@ -3,10 +3,11 @@ ghost use Rattle.avm_model.specs.Device.{MessageState};
 ghost use Rattle.avm_num.specs.Room.{with_bytes, left};
 ghost use Rattle.std.specs.Int.{w16, w32};
 ghost use Rattle.avm_num.specs.Lists.{list_bytes, many_bytes, sized_bytes, be, one};
-ghost use Rattle.avm_model.specs.Head.{status_code, hart_bytes, FrontData, TransmitData, message_bytes, peer_bytes, front_bytes, transmit_bytes};
+ghost use Rattle.avm_model.specs.Head.{status_code, hart_bytes, FrontData, TransmitData, message_bytes, peer_bytes, front_bytes, transmit_bytes, words_bytes, bell_bytes};
+ghost use Rattle.avm_model.specs.Sizes.{bell_size};
 
 use crate::draft::Draft;
-use avm_model::{Peer, Status};
+use avm_model::{Bell, Peer, Status};
 
 /// Writes a row.
 #[tactic(auto, using(avm_num::proofs::Writes::written))]
@@ -50,11 +51,10 @@ fn put_words(out: &mut Draft, words: &[u32])
 #[tactic(auto, unfolding(avm_model::specs::Head::front_bytes), using(avm_num::proofs::Writes::written))]
 pub fn put_front(out: &mut Draft, own: u8, snap: u32, pages: u32, peers: &[Peer])
     requires few { length peers.now < 16 }
-    requires room { 11 + 81 * length peers.now ≤ left out.old }
+    requires room { 10 + 81 * length peers.now ≤ left out.old }
     ensures value { out.new ≡ with_bytes out.old (front_bytes (record { own = own; snap = snap; pages = pages; peers = peers.now })) }
-    ensures left { left out.new + 11 + 81 * length peers.now ≡ left out.old }
+    ensures left { left out.new + 10 + 81 * length peers.now ≡ left out.old }
 {
-    out.put_u8(1);
     out.put_u8(own);
     out.put_u32(snap);
     out.put_u32(pages);
@@ -111,4 +111,27 @@ pub fn put_transmit(out: &mut Draft, peer: u32, len: u32, outcome: u32, window: 
     out.put_u32(len);
     out.put_u32(outcome);
     out.put(window);
+}
+
+/// Writes what a bell holds.
+#[tactic(auto, unfolding(avm_model::specs::Head::words_bytes), using(avm_num::proofs::Writes::written))]
+fn put_bell_words(out: &mut Draft, bell: Bell)
+    requires { 9 ≤ left out.old }
+    ensures value { out.new ≡ with_bytes out.old (words_bytes bell) }
+    ensures left { left out.new + 9 ≡ left out.old }
+{
+    out.put_u32(bell.vector);
+    out.put_u32(bell.saved);
+    out.put_u8(bell.state);
+}
+
+/// Writes the bell, which version 1 does not have.
+#[tactic(auto, unfolding(avm_model::specs::Head::bell_bytes), using(crate::proofs::Puts::nothing_put))]
+pub fn put_bell(out: &mut Draft, bell: Option<Bell>)
+    requires { bell_size bell ≤ left out.old }
+    ensures { out.new ≡ with_bytes out.old (bell_bytes bell) }
+{
+    if let Some(bell) = bell {
+        put_bell_words(out, bell);
+    }
 }

@@ -275,6 +275,55 @@ fn a_head_has_its_length(rt: HostRuntime) {
     assert!(&rt; !read_head(bytes.as_slice()));
 }
 
+/// The bytes with another version in front, and more behind them.
+fn of_version(mut bytes: Vec<u8>, version: u8, more: &[u8]) -> Option<Vec<u8>> {
+    if let Some(byte) = bytes.get_mut(0) {
+        *byte = version;
+    }
+    bytes.extend_from_slice(more).ok()?;
+    Some(bytes)
+}
+
+#[test]
+fn versions_and_bells_are_judged(rt: HostRuntime) {
+    // The version, what stands behind the transmit window, and whether that is a head.
+    let rows: [(u8, &[u8], bool); 22] = [
+        (1, &[], true),
+        (1, &[0; 9], false),
+        (2, &[], false),
+        (2, &[0; 8], false),
+        (2, &[0; 9], true),
+        (2, &[0; 10], false),
+        (2, &[0; 18], false),
+        (0, &[0; 9], false),
+        (3, &[0; 9], false),
+        (2, &[0x80, 0, 0, 0x14, 0x80, 0, 0, 0x10, 0], true),
+        (2, &[0x80, 0, 0, 0x14, 0x80, 0, 0, 0x10, 1], true),
+        (2, &[0x80, 0, 0, 0x14, 0x80, 0, 0, 0x10, 2], true),
+        (2, &[0x80, 0, 0, 0x14, 0x80, 0, 0, 0x10, 3], false),
+        (2, &[0x80, 0, 0, 0x14, 0x80, 0, 0, 0x10, 255], false),
+        (2, &[0x80, 0, 0, 0x15, 0x80, 0, 0, 0x10, 1], false),
+        (2, &[0x80, 0, 0, 0x16, 0x80, 0, 0, 0x10, 1], false),
+        (2, &[0x80, 0, 0, 0x14, 0x80, 0, 0, 0x11, 1], false),
+        (2, &[0x80, 0, 0, 0x14, 0x80, 0, 0, 0x12, 1], false),
+        (2, &[0xff, 0xff, 0xff, 0xfc, 0, 0, 0, 0, 2], true),
+        (2, &[0, 0, 0, 0, 0xff, 0xff, 0xff, 0xfc, 2], true),
+        (2, &[0xff, 0xff, 0xff, 0xff, 0, 0, 0, 0, 2], false),
+        (2, &[0, 0, 0, 0, 0xff, 0xff, 0xff, 0xff, 2], false),
+    ];
+    for (version, more, want) in rows {
+        let Ok(head) = middle(rt.alloc()) else {
+            assert!(&rt; false);
+            return;
+        };
+        let Some(bytes) = of_version(head, version, more) else {
+            assert!(&rt; false);
+            return;
+        };
+        assert!(&rt; read_head(bytes.as_slice()) == want, "{version} {more:?}");
+    }
+}
+
 /// The machine of a head, with a RAM of zeros.
 fn machine_from(alloc: Global, head: &[u8]) -> Option<Machine>
     ensures { IfSome result (λ m. m.state.devices.clock ≡ None) }
@@ -323,13 +372,21 @@ fn full(alloc: Global) -> Result<Vec<u8>, AllocError> {
 
 #[test]
 fn machines_are_read_and_written(rt: HostRuntime) {
-    let heads = [
-        (booting(rt.alloc()), 1192),
-        (middle(rt.alloc()), 1364),
-        (full(rt.alloc()), 11774),
+    let bell: &[u8] = &[0x80, 0, 0, 0x14, 0x80, 0, 0, 0x10, 2];
+    let heads: [(Result<Vec<u8>, AllocError>, u8, &[u8], usize); 6] = [
+        (booting(rt.alloc()), 1, &[], 1192),
+        (middle(rt.alloc()), 1, &[], 1364),
+        (full(rt.alloc()), 1, &[], 11774),
+        (booting(rt.alloc()), 2, &[0; 9], 1201),
+        (middle(rt.alloc()), 2, bell, 1373),
+        (full(rt.alloc()), 2, bell, 11783),
     ];
-    for (head, len) in heads {
+    for (head, version, more, len) in heads {
         let Ok(bytes) = head else {
+            assert!(&rt; false);
+            return;
+        };
+        let Some(bytes) = of_version(bytes, version, more) else {
             assert!(&rt; false);
             return;
         };
@@ -360,6 +417,20 @@ fn a_root_is_that_of_an_independent_program(rt: HostRuntime) {
         0xa0, 0xd3, 0x14, 0xbe, 0x79, 0x46, 0x11, 0xa1, 0x7d, 0xe4, 0x2c, 0xf2, 0x22, 0xf7, 0xa4,
         0xf0, 0x90, 0x0c, 0xed, 0x41, 0x12, 0x12, 0xe0, 0x9e, 0x77, 0xee, 0xf9, 0x5c, 0xa8, 0x60,
         0x21, 0x14,
+    ];
+    assert!(&rt; state_root(&machine, &Digest(pages)) == Digest(want));
+    let Some(rung) = of_version(bytes, 2, &[0x80, 0, 0, 0x14, 0x80, 0, 0, 0x10, 2]) else {
+        assert!(&rt; false);
+        return;
+    };
+    let Some(machine) = machine_from(rt.alloc(), rung.as_slice()) else {
+        assert!(&rt; false);
+        return;
+    };
+    let want = [
+        0xd9, 0x64, 0x7d, 0x31, 0x2e, 0xd5, 0xd4, 0x48, 0x2b, 0x98, 0xe4, 0x70, 0xbc, 0x1b, 0x32,
+        0xf6, 0xac, 0x28, 0xa0, 0x25, 0x5e, 0x85, 0x64, 0x35, 0x05, 0xda, 0xfe, 0x7f, 0x09, 0x0a,
+        0x50, 0xb2,
     ];
     assert!(&rt; state_root(&machine, &Digest(pages)) == Digest(want));
 }

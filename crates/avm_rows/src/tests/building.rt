@@ -25,7 +25,8 @@ pub struct Origin {
     pub root: Digest,
 }
 
-fn put_words(ram: &mut Ram, words: &[u32]) {
+/// Puts the words at the front of a RAM.
+pub fn put_words(ram: &mut Ram, words: &[u32]) {
     let mut addr = 0x8000_0000u32;
     for &word in words {
         let _stored = ram.store(addr, 4, word);
@@ -50,8 +51,21 @@ fn booting(alloc: Global, ram: Ram, snap: u32, rows: Vec<Peer>) -> Option<Machin
     Some(Machine::new(devices, ram, snap, 0x8000_0000))
 }
 
-/// The state before the first step of a guest of one page.
+/// The state of a machine.
 #[tactic(auto, unfolding(avm_num::specs::Room::left))]
+pub fn origin_from(alloc: Global, machine: &Machine, pages: Vec<u8>, tree: &Tree) -> Option<Origin>
+    requires { machine.now.state.devices.clock ≡ None }
+{
+    let mut head = Room::new(alloc, head_len(machine)).ok()?;
+    put_head(&mut head, machine);
+    Some(Origin {
+        head: Vec::from_slice(alloc, head.bytes()).ok()?,
+        pages,
+        root: state_root(machine, &tree.root()),
+    })
+}
+
+/// The state before the first step of a guest of one page.
 pub fn origin_of(alloc: Global, words: &[u32], snap: u32, rows: Vec<Peer>) -> Option<Origin>
     requires least { 1024 ≤ snap }
     requires most { snap ≤ 2 ^ 24 }
@@ -64,13 +78,7 @@ pub fn origin_of(alloc: Global, words: &[u32], snap: u32, rows: Vec<Peer>) -> Op
     let tree = Tree::build(alloc, &mut ram).ok()?;
     let pages = Vec::from_slice(alloc, ram.bytes()).ok()?;
     let machine = booting(alloc, ram, snap, rows)?;
-    let mut head = Room::new(alloc, head_len(&machine)).ok()?;
-    put_head(&mut head, &machine);
-    Some(Origin {
-        head: Vec::from_slice(alloc, head.bytes()).ok()?,
-        pages,
-        root: state_root(&machine, &tree.root()),
-    })
+    origin_from(alloc, &machine, pages, &tree)
 }
 
 /// The content of an entry.
@@ -102,7 +110,7 @@ pub fn front(
     head: &[u8],
     pages: &[u8],
 ) -> Option<Vec<u8>> {
-    if head.len() > 11774 {
+    if head.len() > 11783 {
         return None;
     }
     let mut front = Room::new(alloc, 49 + head.len()).ok()?;

@@ -5,7 +5,6 @@ ghost use Rattle.avm_model.specs.Bounds.{are_rows, none_past};
 
 use super::building::{Entry, booted, content, origin_of};
 use super::entries::{CLOCK, SEND};
-use super::guests::ECHO;
 use super::keys::{quick_key, signature};
 use super::running::audits_as;
 use avm_hash::Digest;
@@ -15,6 +14,7 @@ use lms_tree::LmsKey;
 use log_chain::next;
 use peer_packet::{put_ack, put_data};
 use std::alloc::{AllocError, Global};
+use test_guests::ECHO;
 
 const RECV: u8 = 5;
 
@@ -38,6 +38,7 @@ type Step = (u8, u64);
 const COMES_BACK: &[Step] = &[(RECV, 0), (CLOCK, 21), (SEND, 24600)];
 
 /// The row of peer 1.
+#[tactic(auto, unfolding(avm_model::specs::LmsValid::has_types))]
 fn one_row(alloc: Global) -> Result<Vec<Peer>, AllocError>
     ensures rows { IfOk result (λ v. IsTrue (are_rows 0 0 v.items)) }
     ensures none { IfOk result (λ v. IsTrue (none_past 0 v.items)) }

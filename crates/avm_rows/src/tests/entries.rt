@@ -2,7 +2,6 @@
 //! the definitions, read by hand, and of an independent program.
 
 use super::building::{Entry, alone};
-use super::guests;
 use super::running::audits_as;
 use std::alloc::Global;
 
@@ -138,7 +137,7 @@ fn prints(rt: HostRuntime) {
             2,
         ),
     ];
-    assert_eq!(rt; passed(rt.alloc(), guests::PRINTS, &rows), rows.len());
+    assert_eq!(rt; passed(rt.alloc(), test_guests::PRINTS, &rows), rows.len());
 }
 
 #[test]
@@ -200,7 +199,7 @@ fn prints_with_inputs(rt: HostRuntime) {
             2,
         ),
     ];
-    assert_eq!(rt; passed(rt.alloc(), guests::PRINTS, &rows), rows.len());
+    assert_eq!(rt; passed(rt.alloc(), test_guests::PRINTS, &rows), rows.len());
 }
 
 #[test]
@@ -288,7 +287,7 @@ fn counts(rt: HostRuntime) {
             2,
         ),
     ];
-    assert_eq!(rt; passed(rt.alloc(), guests::COUNTS, &rows), rows.len());
+    assert_eq!(rt; passed(rt.alloc(), test_guests::COUNTS, &rows), rows.len());
 }
 
 #[test]
@@ -354,7 +353,7 @@ fn asks(rt: HostRuntime) {
             2,
         ),
     ];
-    assert_eq!(rt; passed(rt.alloc(), guests::ASKS, &rows), rows.len());
+    assert_eq!(rt; passed(rt.alloc(), test_guests::ASKS, &rows), rows.len());
 }
 
 #[test]
@@ -418,7 +417,7 @@ fn reads(rt: HostRuntime) {
             0,
         ),
     ];
-    assert_eq!(rt; passed(rt.alloc(), guests::READS, &rows), rows.len());
+    assert_eq!(rt; passed(rt.alloc(), test_guests::READS, &rows), rows.len());
 }
 
 #[test]
@@ -438,5 +437,5 @@ fn spins(rt: HostRuntime) {
         (&[(CONIN, 1024, b"a")], "refused uncovered 2\n", 2),
         (&[(HALT, 5, CALL)], "refused uncovered 2\n", 2),
     ];
-    assert_eq!(rt; passed(rt.alloc(), guests::SPINS, &rows), rows.len());
+    assert_eq!(rt; passed(rt.alloc(), test_guests::SPINS, &rows), rows.len());
 }

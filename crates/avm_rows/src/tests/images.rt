@@ -2,10 +2,10 @@
 
 use super::building::{Entry, alone};
 use super::entries::{CALL, HALT, OUT};
-use super::guests::{COUNTS, PRINTS, SPINS};
 use super::rows::from_snapshot;
 use super::running::{Ran, run};
 use std::alloc::Global;
+use test_guests::{COUNTS, PRINTS, SPINS};
 
 /// The words of the guest that prints but for the last.
 const ONE_SHORT: &[u32] = &[
@@ -32,7 +32,7 @@ fn beside(alloc: Global, segment: &[u8], image: &[u8]) -> Option<Ran> {
 }
 
 /// Whether an audit beside the image of these words prints this line and ends with this status.
-fn ends_beside(
+pub fn ends_beside(
     alloc: Global,
     segment: &[u8],
     words: &[u32],
@@ -75,5 +75,8 @@ fn an_image_that_is_not_there(rt: HostRuntime) {
     let segment = alone(rt.alloc(), PRINTS, &[]).expect(&rt, "memory");
     let texts = ["audit", "--segment", "s", "--image", "i"];
     let ran = run(rt.alloc(), &texts, &[("s", &segment)]).expect(&rt, "memory");
+    assert!(rt; ran.ended("refused file --image\n", 3));
+    // the segment's file is read last
+    let ran = run(rt.alloc(), &texts, &[]).expect(&rt, "memory");
     assert!(rt; ran.ended("refused file --image\n", 3));
 }

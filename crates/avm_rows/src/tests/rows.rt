@@ -2,10 +2,10 @@
 
 use super::building::{Origin, alone, content, front, origin_of, push_entry};
 use super::entries::{CALL, HALT, OUT, ROOT, SNAP};
-use super::guests::{COUNTS, PRINTS};
 use super::running::{audits_as, cut, run};
 use avm_hash::Digest;
 use std::alloc::Global;
+use test_guests::{COUNTS, PRINTS};
 
 /// The hash of entry 3 of the log of the guest that counts, by an independent program.
 const BEFORE: Digest = Digest([

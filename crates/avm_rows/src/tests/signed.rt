@@ -2,7 +2,6 @@
 
 use super::building::{Entry, alone};
 use super::entries::{CALL, HALT, OUT};
-use super::guests::PRINTS;
 use super::keys::{authenticator, key};
 use super::running::{Ran, cut, run, run_failing};
 use avm_hash::Digest;
@@ -11,6 +10,7 @@ use log_chain::chain;
 use log_entry::Frames;
 use seg_file::read_segment;
 use std::alloc::Global;
+use test_guests::PRINTS;
 
 const AUDIT: &[&str] = &[
     "audit",

@@ -2,7 +2,6 @@
 
 use super::building::{Entry, booted, origin_of};
 use super::entries::{CALL, HALT, OUT};
-use super::guests::PRINTS;
 use super::keys::{authenticator, quick_key};
 use super::signed::{Case, audit, checks_as};
 use Log::{Early, Good, Uncommitted};
@@ -12,6 +11,7 @@ use log_chain::next;
 use log_entry::Frames;
 use seg_file::read_segment;
 use std::alloc::Global;
+use test_guests::PRINTS;
 
 /// As the guest makes it; with the line one step early; with another root in BOOT.
 #[derive(Clone, Copy)]

@@ -3,7 +3,8 @@ use Rattle.avm_model.specs.HeadReading.{head_of}
 use Rattle.avm_auth.specs.Views.{auth_view}
 use Rattle.log_entry.proofs.Options.{is_some_is}
 use Rattle.seg_file.specs.Views.{segment_view}
-use Rattle.auditor.proofs.Replays.{no_segment_shows, no_head_shows, no_top_shows, decides_by}
+use Rattle.avm_model.proofs.SegmentPages.{has_pages}
+use Rattle.auditor.proofs.Replays.{whole_is, no_segment_shows, no_head_shows, no_top_shows, decides_by}
 use Rattle.auditor.proofs.holding.replay_stands.Goals as goal
 
 pub returns-in_default : goal.returns-in_default
@@ -14,6 +15,11 @@ returns-then-not-read_head c = no_head_shows c.args.key.now c.args.segment.now (
 
 pub returns-then-not-is_top : goal.returns-then-not-is_top
 returns-then-not-is_top c = no_top_shows c.args.key.now c.args.segment.now (auth_view c.args.top.now) (segment_view c.in-Some.parts) c.in-Some.ensures.exact (sym c.is_top.ensures ∙ c.if-not-is_top.true)
+
+pub replayed-requires-clause-pages : goal.replayed-requires-clause-pages
+replayed-requires-clause-pages c = λ h e.
+    let s = segment_view c.in-Some.parts in
+    has_pages c.args.segment.now s h (whole_is c.args.segment.now s h c.in-Some.ensures.exact e)
 
 pub returns : goal.returns
 returns c =

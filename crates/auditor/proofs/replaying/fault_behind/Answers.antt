@@ -2,7 +2,7 @@ use Rattle.std.proofs.Common.{ap, ◌∙◌, subst, List, ℕ}
 use Rattle.avm_model.specs.Frame.{FrameData, frames_of}
 use Rattle.avm_model.specs.Audit.{behind_first}
 use Rattle.avm_model.specs.Reference.{IsFaultNumber}
-use Rattle.auditor.proofs.Faults.{behind_is}
+use Rattle.auditor.proofs.Behind.{behind_is}
 use Rattle.auditor.proofs.replaying.fault_behind.Goals as goal
 
 pub returns : goal.returns

@@ -1,5 +1,5 @@
 use Rattle.std.proofs.Common.{rules, sym, ◌∙◌}
-use Rattle.avm_model.specs.Job.{audit_job, audit_command}
+use Rattle.avm_script.specs.Job.{audit_job, audit_command}
 use Rattle.avm_script.proofs.Asked.{refused, asked}
 use Rattle.avm_script.proofs.commands.audit.Goals as goal
 

@@ -1,5 +1,5 @@
 use Rattle.std.proofs.Common.{rules, sym, ◌∙◌}
-use Rattle.avm_model.specs.Job.{check_job, check_command}
+use Rattle.avm_script.specs.Job.{check_job, check_command}
 use Rattle.avm_script.proofs.Asked.{refused, asked}
 use Rattle.avm_script.proofs.commands.check.Goals as goal
 

@@ -1,5 +1,5 @@
 use Rattle.std.proofs.Common.{rules, sym, ◌∙◌}
-use Rattle.avm_model.specs.Job.{rebut_job, rebut_command}
+use Rattle.avm_script.specs.Job.{rebut_job, rebut_command}
 use Rattle.avm_script.proofs.Asked.{refused, asked}
 use Rattle.avm_script.proofs.commands.rebut.Goals as goal
 

@@ -1,5 +1,5 @@
 use Rattle.std.proofs.Common.{rules, sym, ◌∙◌}
-use Rattle.avm_model.specs.Job.{record_words, record_command}
+use Rattle.avm_script.specs.Job.{record_words, record_command}
 use Rattle.avm_script.proofs.Asked.{refused, asked}
 use Rattle.avm_script.proofs.commands.record.Goals as goal
 

@@ -1,28 +1,33 @@
-use Rattle.std.proofs.Common.{ℕ, ◌/◌, ◌<◌, ◌^◌, length, IsTrue, refl, ap, sym, subst, ◌∙◌, rules}
+use Rattle.std.proofs.Common.{ℕ, ◌/◌, ◌<◌, ◌^◌, length, IsTrue, refl, ap, sym, subst, ◌∙◌, arith, rules}
 use Rattle.avm_model.specs.HeadReading.{head_of}
 use Rattle.avm_model.specs.HeadState.{state_of}
 use Rattle.avm_model.specs.ImageState.{is_booted}
 use Rattle.avm_model.specs.Machine.{State, MachineState}
 use Rattle.avm_model.specs.Memory.{RamState, is_page_count}
 use Rattle.log_entry.proofs.Options.{is_some_is}
-use Rattle.seg_file.specs.Views.{segment_view}
-use Rattle.auditor.proofs.Pages.{counted, few_pages, divided}
-use Rattle.boot_image.proofs.Boots.{loaded_test, refused_test, swapped, marks}
+use Rattle.avm_model.proofs.PageCounts.{few_pages}
+use Rattle.boot_image.proofs.Boots.{loaded_test, refused_test, swapped, divided, marks}
 use Rattle.boot_image.proofs.begins.is_snapshot_of.Goals as goal
 
 pub overflow_cast-segment : goal.overflow_cast-segment
-overflow_cast-segment c = let h : length c.args.segment.now.pages.now / 4096 < 2 ^ 32 = few_pages (segment_view c.args.segment.now) c.requires.fits in search rules
+overflow_cast-segment c =
+    let h = is_some_is (head_of c.args.segment.now.head.now) c.requires.head in
+    let k = c.requires.pages h.0 h.1 in
+    let size = k.size in
+    let few = few_pages h.0.front.pages k.count in
+    let low : length c.args.segment.now.pages.now / 4096 < 2 ^ 32 = omega (arith, size, few) in
+    search rules
 
 pub new-requires : goal.new-requires
 new-requires c =
     let h = is_some_is (head_of c.args.segment.now.head.now) c.requires.head in
-    let k = counted (segment_view c.args.segment.now) h.0 c.are_bytes.ensures c.requires.fits h.1 in
+    let k = c.requires.pages h.0 h.1 in
     subst (λ (n : ℕ). IsTrue (is_page_count n)) (sym (divided (length c.args.segment.now.pages.now) h.0.front.pages k.size)) k.count
 
 pub machine_of-requires : goal.machine_of-requires
 machine_of-requires c =
     let h = is_some_is (head_of c.args.segment.now.head.now) c.requires.head in
-    let k = counted (segment_view c.args.segment.now) h.0 c.are_bytes.ensures c.requires.fits h.1 in
+    let k = c.requires.pages h.0 h.1 in
     let n = divided (length c.args.segment.now.pages.now) h.0.front.pages k.size in
     record { head = (h.0, h.1, marks (length c.args.segment.now.pages.now / 4096) h.0.front.pages c.in_ok-ram.ram c.load.new.ram c.in_ok-ram.ensures c.load.ensures.pages n) }
 

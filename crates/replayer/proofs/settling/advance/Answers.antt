@@ -20,4 +20,4 @@ loop-preserved c =
     let empty = c.if-not-is_empty-2.ensures.none in
     let lt : c.loop.machine.state.count < c.args.count = omega arith in
     let k = step_on c.loop.machine.state c.step_on.new.machine.state c.step_on.new.pending c.args.count c.if-not-step_on.ensures.yes lt empty in
-    (empty, c.if-not-is_empty-2.ensures.line, omega (arith, k.0), k.1 ∙ c.loop.invariant.3, marks_on _ _ _ c.loop.invariant.4 c.step_on.ensures.marks)
+    (empty, c.if-not-step_on.ensures.fits, omega (arith, k.0), k.1 ∙ c.loop.invariant.3, marks_on _ _ _ c.loop.invariant.4 c.step_on.ensures.marks)

@@ -1,19 +1,22 @@
 use Rattle.std.proofs.Common.{arith, refl, ◌-◌, ◌^◌}
 use Rattle.snap_state.specs.Views.{head_view}
-use Rattle.snap_state.proofs.HeadBounds.{bounded, past_more}
+use Rattle.avm_model.proofs.HeadBounds.{bounded, past_more}
 use Rattle.snap_state.proofs.machine.devices_of.Goals as goal
 
-pub new-requires-clause-self_id : goal.new-requires-clause-self_id
-new-requires-clause-self_id c = (bounded (head_view c.args.parts.now) c.requires.bounds).own
+pub empty_devices-requires-clause-self_id : goal.empty_devices-requires-clause-self_id
+empty_devices-requires-clause-self_id c = (bounded (head_view c.args.parts.now) c.requires.bounds).own
 
-pub new-requires-clause-rows : goal.new-requires-clause-rows
-new-requires-clause-rows c = rw (c.in-Ok.ensures, c.again.ensures) (bounded (head_view c.args.parts.now) c.requires.bounds).rows
+pub empty_devices-requires-clause-rows : goal.empty_devices-requires-clause-rows
+empty_devices-requires-clause-rows c = rw (c.in-Ok.ensures, c.again.ensures) (bounded (head_view c.args.parts.now) c.requires.bounds).rows
 
-pub new-requires-clause-sent : goal.new-requires-clause-sent
-new-requires-clause-sent c =
+pub empty_devices-requires-clause-sent : goal.empty_devices-requires-clause-sent
+empty_devices-requires-clause-sent c =
     let b = bounded (head_view c.args.parts.now) c.requires.bounds in
     let low = b.count in
     rw (c.in-Ok.ensures, c.again.ensures) (past_more c.args.parts.now.hart.count (2 ^ 62 - 1) c.args.parts.now.front.peers (omega (arith, low)) b.sent)
+
+pub empty_devices-requires-clause-bell : goal.empty_devices-requires-clause-bell
+empty_devices-requires-clause-bell c = (bounded (head_view c.args.parts.now) c.requires.bounds).bell
 
 pub set_line-requires : goal.set_line-requires
 set_line-requires c = let line = (bounded (head_view c.args.parts.now) c.requires.bounds).line in omega (arith, line)

@@ -1,6 +1,6 @@
 use Rattle.std.proofs.Common.{sym}
 use Rattle.snap_state.specs.Views.{head_view}
-use Rattle.snap_state.proofs.HeadBounds.{head_bounded}
+use Rattle.avm_model.proofs.HeadBounds.{head_bounded}
 use Rattle.snap_state.proofs.machine.machine_of.Goals as goal
 
 pub machine_with-requires-clause-bounds : goal.machine_with-requires-clause-bounds

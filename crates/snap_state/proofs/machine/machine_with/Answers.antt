@@ -1,6 +1,6 @@
 use Rattle.std.proofs.Common.{refl}
 use Rattle.snap_state.specs.Views.{head_view}
-use Rattle.snap_state.proofs.HeadBounds.{bounded}
+use Rattle.avm_model.proofs.HeadBounds.{bounded}
 use Rattle.snap_state.proofs.machine.machine_with.Goals as goal
 
 pub invariant_of-hart : goal.invariant_of-hart

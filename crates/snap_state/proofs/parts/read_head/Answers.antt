@@ -1,4 +1,5 @@
-use Rattle.snap_state.proofs.HeadLaws.{found, only, exact}
+use Rattle.avm_model.proofs.HeadReads.{found, only}
+use Rattle.snap_state.proofs.Reading.{exact}
 use Rattle.snap_state.proofs.parts.read_head.Goals as goal
 
 pub returns-clause-found : goal.returns-clause-found

@@ -9,6 +9,6 @@ loop-i-preserved c =
     let v = c.put_u8.ensures.value in
     let l = c.put_u8.ensures.left in
     record {
-      value = ap (λ (b : Buffer). with_bytes b (drop (c.loop-i.i + 1) c.args.devices.now.console)) v ∙ byte_put c.loop-i.out c.args.devices.now.console c.loop-i.i c.console_at.result c.console_at.ensures ∙ i.value;
+      value = ap (λ (b : Buffer). with_bytes b (drop (c.loop-i.i + 1) c.args.devices.now.state.console)) v ∙ byte_put c.loop-i.out c.args.devices.now.state.console c.loop-i.i c.console_at.result c.console_at.ensures ∙ i.value;
       left = omega (arith, l);
     }

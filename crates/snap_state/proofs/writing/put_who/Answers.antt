@@ -1,5 +1,5 @@
 use Rattle.avm_model.specs.HeadState.{data_of}
-use Rattle.snap_state.proofs.HeadBounds.{rows_few}
+use Rattle.avm_model.proofs.HeadBounds.{rows_few}
 use Rattle.snap_state.proofs.writing.put_who.Goals as goal
 
 pub put_front-requires-clause-few : goal.put_front-requires-clause-few

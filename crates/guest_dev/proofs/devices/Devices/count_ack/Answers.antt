@@ -21,4 +21,6 @@ invariant_of-self c =
       messages = h.messages;
       result = h.result;
       peered = subst (λ (ps : List Peer). IsPeered d.own ps d.messages) (sym (back ∙ c.count_acked.ensures.value ∙ ap (λ (ps : List Peer). with_row ps c.args.peer acknowledges) c.as_mut_slice.ensures.value)) kept;
+      bell = h.bell;
+      asked = h.asked;
     }

@@ -19,4 +19,6 @@ invariant_of-self c =
       messages = subst (λ (ms : List MessageState). length ms ≤ 8) (sym after) (omega (arith, low, length-append c.self.inside.messages (m ∷ [])));
       result = h.result;
       peered = subst (λ (ms : List MessageState). IsPeered c.self.inside.own c.self.inside.peers.items ms) (sym after) (peered_takes c.self.inside.own c.self.inside.peers.items c.self.inside.messages m c.requires.short (search rules) h.peered);
+      bell = h.bell;
+      asked = h.asked;
     }

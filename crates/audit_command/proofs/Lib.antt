@@ -1,0 +1,6 @@
+mod Long
+mod Judged
+mod Checked
+mod Meanings
+mod Later
+mod Runs

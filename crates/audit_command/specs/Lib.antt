@@ -1,0 +1,9 @@
+pub mod Ends
+pub mod Said
+pub mod ImageFile
+pub mod Subject
+pub mod Audit
+pub mod Inputs
+pub mod Check
+pub mod Outcomes
+pub mod Meaning

@@ -1,0 +1,13 @@
+pub mod Pairs
+pub mod Cases
+pub mod Numbers
+pub mod Marking
+pub mod Matching
+pub mod Loaded
+pub mod Judged
+pub mod Course
+pub mod Rows
+pub mod Subject
+pub mod Streaming
+pub mod Heard
+pub mod Parts

@@ -1,0 +1,11 @@
+use Rattle.std.proofs.Common.{rules, sym, ◌∙◌}
+use Rattle.avm_script.specs.Job.{enroll_job, enroll_command}
+use Rattle.avm_script.proofs.Asked.{refused, asked}
+use Rattle.avm_script.proofs.levels.enroll.Goals as goal
+
+pub returns-then-not-is_paired : goal.returns-then-not-is_paired
+returns-then-not-is_paired c = sym (refused enroll_command _ (sym c.is_paired.ensures ∙ c.if-not-is_paired.true))
+
+pub returns : goal.returns
+unfolding enroll_job
+returns c = rw (asked enroll_command _ (sym c.is_paired.ensures ∙ c.if-not-is_paired.false)) (search rules)

@@ -1,0 +1,11 @@
+use Rattle.std.proofs.Common.{rules, sym, ◌∙◌}
+use Rattle.avm_script.specs.Job.{view_job, view_command}
+use Rattle.avm_script.proofs.Asked.{refused, asked}
+use Rattle.avm_script.proofs.views.view.Goals as goal
+
+pub returns-then-not-is_paired : goal.returns-then-not-is_paired
+returns-then-not-is_paired c = sym (refused view_command _ (sym c.is_paired.ensures ∙ c.if-not-is_paired.true))
+
+pub returns : goal.returns
+unfolding view_job
+returns c = rw (asked view_command _ (sym c.is_paired.ensures ∙ c.if-not-is_paired.false)) (search rules)

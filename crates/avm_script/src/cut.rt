@@ -1,0 +1,14 @@
+// Bytes up to a byte.
+ghost use Rattle.std.specs.Prelude.{◌≡◌, ◌<◌, length, option_map, IfSome};
+ghost use Rattle.avm_script.specs.Script.{cut_at};
+
+// What stands before the first such byte, and what stands behind it. None exactly where there is none.
+pub fn cut(bytes: &[u8], byte: u8) -> Option<(&[u8], &[u8])>
+    ensures value { option_map (λ p. (p.0.now, p.1.now)) result ≡ cut_at byte bytes.now }
+    ensures shorter { IfSome result (λ p. length p.1.now < length bytes.now) }
+{
+    match bytes.iter().position(|b| *b == byte) {
+        Some(place) => Some((&bytes[..place], &bytes[place + 1..])),
+        None => None,
+    }
+}

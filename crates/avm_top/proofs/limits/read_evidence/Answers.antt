@@ -1,7 +1,0 @@
-use Rattle.std.proofs.Common.{None}
-use Rattle.avm_model.specs.Evidence.{evidence_at, longest_evidence}
-use Rattle.avm_top.proofs.Cuts.{read_ok, evidence_long}
-use Rattle.avm_top.proofs.limits.read_evidence.Goals as goal
-
-pub returns-clause-bytes : goal.returns-clause-bytes
-returns-clause-bytes g c = read_ok evidence_at None longest_evidence evidence_long _ (λ v. v.items) _ c.read_file.ensures.bytes

@@ -1,0 +1,12 @@
+use Rattle.std.proofs.Common.{ap, ◌∙◌, subst, List, ℕ}
+use Rattle.avm_model.specs.Frame.{FrameData, frames_of}
+use Rattle.avm_model.specs.Audit.{behind_first}
+use Rattle.avm_model.specs.Reference.{IsFaultNumber}
+use Rattle.avm_view.proofs.Openings.{behind_is}
+use Rattle.avm_view.proofs.opening.fault_behind.Goals as goal
+
+pub returns : goal.returns
+returns c = λ s e.
+    let is = behind_is _ _ _ c.next-first.ensures.steps.0 in
+    let all = ap (λ (b : List ℕ). behind_first (frames_of b)) c.new-frames.ensures in
+    subst (λ (fs : List FrameData). IsFaultNumber s fs c.fault_in.result) (is ∙ all) (c.fault_in.ensures s e)

@@ -1,0 +1,4 @@
+pub mod Records
+pub mod Spelling
+pub mod TrueKeeps
+pub mod KeepCases

@@ -1,0 +1,3 @@
+mod Booted
+mod Coming
+mod Streamed

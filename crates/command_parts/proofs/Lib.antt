@@ -1,0 +1,4 @@
+pub mod Cuts
+mod Fronts
+pub mod Joined
+pub mod Printed

@@ -1,0 +1,4 @@
+pub mod FileMap
+pub mod Printing
+pub mod Reading
+pub mod Tested

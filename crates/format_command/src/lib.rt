@@ -1,0 +1,14 @@
+//! The command that makes a store: the journal that has the boot of an image alone.
+#![tactic(auto)]
+
+mod boot;
+mod command;
+mod ends;
+mod files;
+mod finishing;
+mod first;
+mod inputs;
+mod making;
+
+pub use command::format;
+pub use ends::{End, FileOption};

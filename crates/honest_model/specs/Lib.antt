@@ -1,0 +1,3 @@
+pub mod Honest
+pub mod Keeps
+pub mod KeepPages

@@ -1,0 +1,2 @@
+pub mod HssAuthLaws
+pub mod Puts

@@ -1,0 +1,5 @@
+pub mod InputLaws
+pub mod Counts
+pub mod Saying
+pub mod Widening
+pub mod Narrowing

@@ -1,0 +1,4 @@
+pub mod Tests
+pub mod Judged
+pub mod Valids
+pub mod Endorsed

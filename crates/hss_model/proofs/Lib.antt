@@ -1,0 +1,3 @@
+pub mod Leaves
+pub mod Rolls
+pub mod RoundTrip

@@ -1,0 +1,4 @@
+pub mod History
+pub mod Hss
+pub mod HssFile
+pub mod Roll

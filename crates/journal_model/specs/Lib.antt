@@ -1,0 +1,7 @@
+pub mod Part
+pub mod Header
+pub mod Journal
+pub mod Standing
+pub mod Spelling
+pub mod Fits
+pub mod Saving

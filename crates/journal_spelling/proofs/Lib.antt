@@ -1,0 +1,4 @@
+pub mod PartLaws
+pub mod HeaderLaws
+pub mod Gates
+pub mod Fronts

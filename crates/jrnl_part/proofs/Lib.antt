@@ -1,0 +1,5 @@
+pub mod CarriedLaws
+pub mod Sizes
+pub mod Places
+pub mod Boot
+pub mod Counting

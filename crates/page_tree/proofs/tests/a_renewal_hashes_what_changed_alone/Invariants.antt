@@ -1,4 +1,0 @@
-use Rattle.page_tree.proofs.tests.a_renewal_hashes_what_changed_alone.Given as goal
-
-abbrev pub ghosts-renewed : goal.ghosts-renewed
-ghosts-renewed g a = record { name = a.blank.name; parts = a.blank.parts }

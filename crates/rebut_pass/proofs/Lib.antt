@@ -1,0 +1,4 @@
+pub mod OnDisk
+pub mod ItemFacts
+pub mod Passes
+pub mod Looked

@@ -1,0 +1,5 @@
+pub mod Nodes
+pub mod Walking
+pub mod Walks
+pub mod Trees
+pub mod Opened

@@ -1,0 +1,4 @@
+pub mod PartLaws
+pub mod Adding
+pub mod Spells
+pub mod Pages

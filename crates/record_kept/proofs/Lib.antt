@@ -1,0 +1,5 @@
+pub mod Keeping
+pub mod Sends
+pub mod Rebuilds
+pub mod Resends
+pub mod Drops

@@ -1,0 +1,5 @@
+pub mod Fronts
+pub mod Truth
+pub mod Kept
+pub mod Moving
+pub mod Turning

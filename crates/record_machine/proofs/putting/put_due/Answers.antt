@@ -1,0 +1,14 @@
+use Rattle.std.proofs.Common.{sym, ap, subst, ◌∙◌, length, List, Bool}
+use Rattle.record_machine.specs.Marks.{HasMarks, used_marks}
+use Rattle.record_machine.proofs.Used.{not_due, snap_due}
+use Rattle.record_machine.proofs.putting.put_due.Goals as goal
+
+pub returns-then-due-clause-value : goal.returns-then-due-clause-value
+returns-then-due-clause-value c =
+    snap_due c.args.all c.args.due c.args.batch.now c.put_snap.new.batch c.args.machine.now.state c.root_now-root.new.machine.state c.args.machine.now.dirty c.as_slice.result.now c.if-due.true c.root_now-root.ensures.state
+    (subst (λ (ms : List Bool). HasMarks ms (used_marks c.args.all c.args.machine.now.dirty)) (sym c.as_slice.ensures.value) c.make.ensures.marks)
+    (ap (λ (ms : List Bool). length ms) c.as_slice.ensures.value ∙ c.make.ensures.pages ∙ c.requires.pages) c.bounds.ensures.ram c.put_snap.ensures.value c.put_snap.ensures.marked
+
+pub returns-else-due-clause-value : goal.returns-else-due-clause-value
+returns-else-due-clause-value c =
+    not_due c.args.all c.args.due c.args.batch.now c.args.machine.now.state c.args.machine.now.dirty c.if-due.false

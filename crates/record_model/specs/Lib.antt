@@ -1,0 +1,5 @@
+pub mod Released
+pub mod Recording
+pub mod Recorded
+pub mod Turn
+pub mod Standing

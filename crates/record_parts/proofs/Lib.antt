@@ -1,0 +1,10 @@
+pub mod Ends
+pub mod Giving
+pub mod Outs
+pub mod Releases
+pub mod Effects
+pub mod Steps
+pub mod Fitting
+pub mod Marks
+pub mod Acting
+pub mod Seals

@@ -1,0 +1,6 @@
+//! What a recorder releases, signed: packets and authenticators.
+#![tactic(auto)]
+
+mod press;
+
+pub use press::Press;

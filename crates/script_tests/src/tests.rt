@@ -1,0 +1,5 @@
+//! Tables by an independent program's reading of the rules, and each call once.
+
+mod configs;
+mod scripts;
+mod words;
