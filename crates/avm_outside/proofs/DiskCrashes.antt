@@ -6,7 +6,7 @@ use Rattle.std.proofs.lemmas.Bool.Decides.{nat_tests}
 use Rattle.avm_outside.specs.Disk.{Torn, Follows, Only, Elapses, overwritten}
 use Rattle.avm_outside.specs.DiskLog.{Change, wrote, missed, synced, KeptCall, DiskState, state_after, state_upto, IsImage, LeftSince, IsRun, is_covered, are_counted}
 use Rattle.avm_outside.proofs.Tears.{Torn-refl}
-use Rattle.avm_outside.proofs.DiskLogs.{counted_of, state_in, state_more, elapses_kept}
+use Rattle.avm_outside.proofs.DiskLogs.{counted_of, state_in, state_out, state_more, elapses_kept}
 
 abbrev in_range : ℕ → ℕ → ℕ → Bool
 in_range at n p = nat_le at p && nat_lt p (at + n)
@@ -220,3 +220,29 @@ settled_only base k c image = ext_get_or 0 c base (omega (arith, image.no_shorte
 pub settled_left : (base : List ℕ) (k : ℕ) → IsImage (state_upto base k []) base
 unfolding Rattle.avm_outside.specs.DiskLog.upto
 settled_left base k = record { no_shorter = omega arith; no_longer = omega arith; kept = λ p lt unwritten. refl }
+
+-- ---- the state behind a call
+
+-- a call that keeps nothing
+pub quiet_state : (base base2 : List ℕ) (log log2 : List KeptCall) (k m : ℕ) → base2 ≡ base → log2 ≡ log → are_counted k log ≡ true → k ≤ m → state_upto base2 m log2 ≡ state_upto base k log
+quiet_state base base2 log log2 k m b l counted le =
+    ap (λ (x : List ℕ). state_upto x m log2) b ∙ ap (λ (x : List KeptCall). state_upto base m x) l ∙ state_more base k m log (counted_of k log counted) le
+
+pub quiet_past : (base base2 : List ℕ) (log log2 : List KeptCall) (j : ℕ) → base2 ≡ base → log2 ≡ log → state_upto base2 j log2 ≡ state_upto base j log
+quiet_past base base2 log log2 j b l = ap (λ (x : List ℕ). state_upto x j log2) b ∙ ap (λ (x : List KeptCall). state_upto base j x) l
+
+-- a call that is kept
+pub kept_state : (base base2 : List ℕ) (log log2 : List KeptCall) (e : KeptCall) (k j m : ℕ) (change : Change) → base2 ≡ base → are_counted k log ≡ true → j ≡ k + 1 → m ≡ j → e ≡ record { call = j; change = change } → log2 ≡ log ++ e ∷ []
+    → state_upto base2 m log2 ≡ state_after (state_upto base k log) change
+kept_state base base2 log log2 e k j m change b counted next same is l =
+    let entry : KeptCall = record { call = j; change = change } in
+    ap (λ (x : List ℕ). state_upto x m log2) b ∙ ap (λ (x : List KeptCall). state_upto base m x) (l ∙ ap (λ (x : KeptCall). log ++ x ∷ []) is)
+    ∙ state_in base m log entry (omega (arith, same))
+    ∙ ap (λ (s : DiskState). state_after s change) (state_more base k m log (counted_of k log counted) (omega (arith, next, same)))
+
+pub kept_past : (base base2 : List ℕ) (log log2 : List KeptCall) (e : KeptCall) (k j i : ℕ) (change : Change) → base2 ≡ base → j ≡ k + 1 → e ≡ record { call = j; change = change } → log2 ≡ log ++ e ∷ [] → i ≤ k
+    → state_upto base2 i log2 ≡ state_upto base i log
+kept_past base base2 log log2 e k j i change b next is l le =
+    let entry : KeptCall = record { call = j; change = change } in
+    ap (λ (x : List ℕ). state_upto x i log2) b ∙ ap (λ (x : List KeptCall). state_upto base i x) (l ∙ ap (λ (x : KeptCall). log ++ x ∷ []) is)
+    ∙ state_out base i log entry (omega (arith, le, next))

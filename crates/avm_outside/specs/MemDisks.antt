@@ -21,3 +21,7 @@ disk_faults d = d.calls.faults
 -- its state after its first calls, so many
 abbrev pub disk_state : MemDisk → ℕ → DiskState
 disk_state d calls = state_upto d.base.items calls d.log.items
+
+-- its state now
+abbrev pub state_now : MemDisk → DiskState
+state_now d = disk_state d (disk_calls d)

@@ -35,6 +35,7 @@ impl MemDisk {
     pub fn new(alloc: Global, fails: Vec<u64>) -> Result<Self, NoMemory>
         ensures bytes { IfOk result (λ d. disk_bytes d ≡ []) }
         ensures state { IfOk result (λ d. (calls : ℕ) → IsImage (disk_state d calls) []) }
+        ensures only { IfOk result (λ d. (calls : ℕ) (c : List ℕ) → IsImage (disk_state d calls) c → c ≡ []) }
         ensures fails { IfOk result (λ d. disk_fails d ≡ fails.items) }
         ensures calls { IfOk result (λ d. disk_calls d ≡ 0) }
         ensures faults { IfOk result (λ d. disk_faults d ≡ 0) }
@@ -251,13 +252,13 @@ impl MemDisk {
 }
 
 impl Disk for MemDisk {
-    ghost use Rattle.std.specs.Prelude.{IsErr};
+    ghost use Rattle.std.specs.Prelude.{IsErr, ◌⊎◌};
     ghost use Rattle.avm_outside.specs.Outside.{Counts};
     ghost use Rattle.avm_outside.specs.Disk.{Torn, Follows, Only, Elapses};
-    ghost use Rattle.avm_outside.specs.DiskLog.{LeftSince, state_upto};
+    ghost use Rattle.avm_outside.specs.DiskLog.{LeftSince, state_upto, state_after, wrote, missed, synced};
     ghost use Rattle.avm_outside.specs.DiskLaws.{now_counts, now_only};
     ghost use Rattle.avm_outside.specs.Mem.{next_call};
-    ghost use Rattle.avm_outside.specs.MemDisks.{disk_bytes, disk_fails, disk_calls, disk_faults, disk_state};
+    ghost use Rattle.avm_outside.specs.MemDisks.{disk_bytes, disk_fails, disk_calls, disk_faults, disk_state, state_now};
 
     ghost faults = { λ d. d.calls.faults };
 
@@ -284,6 +285,8 @@ impl Disk for MemDisk {
         ensures listed { IsErr result ↔ Contains (disk_fails self.old) (disk_calls self.new) }
         ensures calls { disk_calls self.new ≡ next_call (disk_calls self.old) }
         ensures fails { disk_fails self.new ≡ disk_fails self.old }
+        ensures state { state_now self.new ≡ state_now self.old }
+        ensures past { (calls : ℕ) → calls ≤ disk_calls self.old → disk_state self.new calls ≡ disk_state self.old calls }
     {
         if self.count() {
             return Err(self.fail());
@@ -301,6 +304,8 @@ impl Disk for MemDisk {
         ensures listed { IsErr result ↔ Contains (disk_fails self.old) (disk_calls self.new) }
         ensures calls { disk_calls self.new ≡ next_call (disk_calls self.old) }
         ensures fails { disk_fails self.new ≡ disk_fails self.old }
+        ensures state { state_now self.new ≡ state_now self.old }
+        ensures past { (calls : ℕ) → calls ≤ disk_calls self.old → disk_state self.new calls ≡ disk_state self.old calls }
     {
         if self.count() {
             return Err(self.fail());
@@ -326,6 +331,9 @@ impl Disk for MemDisk {
         ensures listed { Contains (disk_fails self.old) (disk_calls self.new) → IsErr result }
         ensures calls { disk_calls self.new ≡ next_call (disk_calls self.old) }
         ensures fails { disk_fails self.new ≡ disk_fails self.old }
+        ensures state { OnOk result (state_now self.new ≡ state_after (state_now self.old) (wrote at bytes.now)) }
+        ensures missed { OnErr result (state_now self.new ≡ state_after (state_now self.old) (missed at (length bytes.now)) ⊎ state_now self.new ≡ state_now self.old) }
+        ensures past { (calls : ℕ) → calls ≤ disk_calls self.old → disk_state self.new calls ≡ disk_state self.old calls }
     {
         if self.is_spent() {
             self.count();
@@ -353,6 +361,9 @@ impl Disk for MemDisk {
         ensures listed { Contains (disk_fails self.old) (disk_calls self.new) → IsErr result }
         ensures calls { disk_calls self.new ≡ next_call (disk_calls self.old) }
         ensures fails { disk_fails self.new ≡ disk_fails self.old }
+        ensures state { OnOk result (state_now self.new ≡ state_after (state_now self.old) synced) }
+        ensures unsynced { OnErr result (state_now self.new ≡ state_now self.old) }
+        ensures past { (calls : ℕ) → calls ≤ disk_calls self.old → disk_state self.new calls ≡ disk_state self.old calls }
     {
         if self.is_spent() {
             self.count();

@@ -435,6 +435,7 @@ impl Journal {
     /// Opens the journal of a disk.
     pub fn attach<D: Disk>(alloc: Global, disk: &mut D) -> Result<Journal, StoreFault>
         ensures answers { IfSome (D.seen disk.old) (λ was. AttachAnswers result (D.may_leave disk.new) was) }
+        ensures open { IfOk result (λ v. (kept v).stop ≡ None) }
         ensures same { D.seen disk.new ≡ D.seen disk.old }
         ensures crash { (c : List ℕ) → D.may_leave disk.new c → D.may_leave disk.old c }
         ensures later { D.moment disk.old ≤ D.moment disk.new }

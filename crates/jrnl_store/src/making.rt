@@ -1,6 +1,6 @@
 //! A new journal on an empty disk.
 
-ghost use Rattle.std.specs.Prelude.{◌≡◌, ◌+◌, ◌*◌, ◌^◌, ◌≤◌, ◌<◌, ◌++◌, ◌∷◌, [], true, is_some, Some, length, take, List, ℕ, IfSome, IfOk, OnOk};
+ghost use Rattle.std.specs.Prelude.{◌≡◌, ◌+◌, ◌*◌, ◌^◌, ◌≤◌, ◌<◌, ◌++◌, ◌∷◌, [], true, is_some, None, Some, length, take, List, ℕ, IfSome, IfOk, OnOk};
 ghost use Rattle.avm_outside.specs.Outside.{BothTold, Counts};
 ghost use Rattle.avm_outside.specs.Moments.{IsShut};
 ghost use Rattle.journal_model.specs.Part.{longest_head};
@@ -70,6 +70,7 @@ impl Journal {
         requires head { length head.now ≤ longest_head }
         requires pages { (n : ℕ) × (pages_in head.now ≡ Some n) × (n ≤ 4096) × (length pages.now ≡ 4096 * n) }
         ensures made { IfOk result (λ v. BothTold (D.seen disk.old) (D.seen disk.new) (λ was now. IsOwn (kept v) (D.may_leave disk.new) now (new_journal key.now head.now pages.now root.now.0))) }
+        ensures open { IfOk result (λ v. (kept v).stop ≡ None) }
         ensures cause { MakeCause (D.seen disk.old) (D.seen disk.new) result }
         ensures faults { CountsFaults (D.faults disk.old) (D.faults disk.new) result }
     {

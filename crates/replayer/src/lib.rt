@@ -12,6 +12,7 @@ mod snapshot;
 mod taking;
 
 pub use guest_machine::NotTaken;
+pub use messages::{ack_in, data_in};
 pub use offering::{Offered, offer};
 pub use replay::{Fault, Replay};
 pub use signed::authentic;

@@ -1,7 +1,7 @@
 use Rattle.std.proofs.Common.{[], List, ℕ, sym, subst}
 use Rattle.avm_outside.specs.DiskLog.{KeptCall, IsRun, IsImage, state_upto}
 use Rattle.avm_outside.proofs.DiskLogs.{run_starts}
-use Rattle.avm_outside.proofs.DiskCrashes.{settled_left}
+use Rattle.avm_outside.proofs.DiskCrashes.{settled_left, settled_only}
 use Rattle.avm_outside.proofs.mem_disk.MemDisk.new.Goals as goal
 
 pub invariant_of-result-clause-run : goal.invariant_of-result-clause-run
@@ -11,3 +11,8 @@ pub returns-clause-state : goal.returns-clause-state
 returns-clause-state c = λ calls.
     subst (λ (b : List ℕ). IsImage (state_upto b calls c.new-2.result.items) []) (sym c.new.ensures.items)
     (subst (λ (l : List KeptCall). IsImage (state_upto [] calls l) []) (sym c.new-2.ensures.items) (settled_left [] calls))
+
+pub returns-clause-only : goal.returns-clause-only
+returns-clause-only c = λ calls left image.
+    settled_only [] calls left (subst (λ (l : List KeptCall). IsImage (state_upto [] calls l) left) c.new-2.ensures.items
+    (subst (λ (b : List ℕ). IsImage (state_upto b calls c.new-2.result.items) left) c.new.ensures.items image))
