@@ -1,6 +1,8 @@
 -- A made-up store: its header, and the bytes of three records behind it.
 use Rattle.std.specs.Prelude.{Option, ℕ, List, [], ◌∷◌, length, map, replicate, None}
+use Rattle.avm_model.specs.Auth.{AuthData}
 use Rattle.avm_model.specs.Device.{fresh}
+use Rattle.avm_model.specs.Evidence.{EvidData, fork}
 use Rattle.avm_model.specs.Machine.{initial}
 use Rattle.journal_model.specs.Header.{HeaderData}
 use Rattle.journal_model.specs.Journal.{JournalData, Outcome, NoStore, Damaged, Is, journal_from, next_number}
@@ -71,3 +73,10 @@ dropped_by e = e.dropped
 
 abbrev pub batch_of : Effect → List Part
 batch_of e = e.recording.batch
+
+-- two authenticators of made-up hashes, and a fork without entries that claims them
+abbrev pub made_auth : ℕ → ℕ → AuthData
+made_auth seq fill = record { seq = seq; hash = replicate 32 fill; sig = [] }
+
+abbrev pub made_fork : EvidData
+made_fork = fork made_header.key 1 (replicate 32 0) [] (made_auth 2 7) (made_auth 1 8)

@@ -1,13 +1,18 @@
-//! Worked examples of the definitions of journals and of recording, which the checker computes.
+//! Worked examples of the definitions of journals, of recording and of rebuttals, which the checker computes.
 #![tactic(auto)]
 
-ghost use Rattle.std.specs.Prelude.{◌≡◌, ◌∷◌, ◌++◌, [], Some, None};
+ghost use Rattle.std.specs.Prelude.{◌≡◌, ◌∷◌, ◌++◌, ℕ, List, [], true, Some, None};
 ghost use Rattle.std.specs.Option.{option_map};
+ghost use Rattle.avm_model.specs.Chain.{link, next_hash};
+ghost use Rattle.avm_model.specs.Frame.{FrameData};
+ghost use Rattle.avm_model.specs.Hash.{hash_of};
 ghost use Rattle.avm_model.specs.Offer.{OfferConsole};
+ghost use Rattle.rebut_model.specs.Rebuts.{forged, rebuts};
+ghost use Rattle.rebut_model.specs.Texts.{collide, differ, entry_texts, first_of_all, texts};
 ghost use Rattle.record_model.specs.Released.{Sender};
 ghost use Rattle.record_model.specs.Recording.{StepOn, TakeIn, effect};
 ghost use Rattle.record_model.specs.Recorded.{next_act};
-ghost use Rattle.journal_worked.specs.Stores.{read_from, shape_of, Broken, Empty, Seen_as, boot_record, seal_record, out_record, opened, one_event, no_event, dropped_by, batch_of};
+ghost use Rattle.journal_worked.specs.Stores.{read_from, shape_of, Broken, Empty, Seen_as, boot_record, seal_record, out_record, opened, one_event, no_event, dropped_by, batch_of, made_store, made_fork};
 
 use avm_model::NotTaken;
 
@@ -30,4 +35,13 @@ pub fn worked_recording()
     ensures over { next_act opened.machine (no_event 0) ≡ None }
     ensures dropped { (who : Sender) → option_map dropped_by (effect who [] opened (TakeIn None)) ≡ Some (Some NotTaken.NotPacket) }
     ensures unlogged { (who : Sender) → option_map batch_of (effect who [] opened (TakeIn None)) ≡ Some [] }
+{}
+
+/// What an owner answers to a fork. The texts stand from the last number of the evidence down, each number's link text before its
+/// content. A pair that was never bound is forged, the first such. Behind equal texts come two that differ and have one hash: a
+/// collision.
+pub fn worked_rebuttal()
+    ensures order { (h g : List ℕ) (a b c d : FrameData) → entry_texts h (a ∷ b ∷ []) g (c ∷ d ∷ []) ≡ texts (link (next_hash h a) b) (link (next_hash g c) d) ∷ texts b.content d.content ∷ texts (link h a) (link g c) ∷ texts a.content c.content ∷ [] }
+    ensures forged { rebuts opened.machine made_store made_fork ≡ Some (forged 0) }
+    ensures collision { (same x y : List ℕ) → differ (texts x y) ≡ true → hash_of x ≡ hash_of y → first_of_all collide (texts same same ∷ texts x y ∷ []) ≡ Some (texts x y) }
 {}

@@ -3,3 +3,4 @@ pub mod Truth
 pub mod Kept
 pub mod Moving
 pub mod Turning
+pub mod Joining

@@ -10,8 +10,10 @@ ghost use Rattle.avm_outside.specs.Feed.{Agenda};
 ghost use Rattle.avm_outside.specs.Outlet.{Piece};
 ghost use Rattle.journal_model.specs.Journal.{JournalData, parts};
 ghost use Rattle.journal_model.specs.Part.{Part, page_at};
+ghost use Rattle.honest_model.specs.Keeps.{IsOpened};
 ghost use Rattle.honest_model.specs.KeepPages.{IsHeader, KeepsPages, WritesHead};
-ghost use Rattle.record_model.specs.Recorded.{Drop, next_act};
+ghost use Rattle.record_model.specs.Recorded.{Drop, Run, IsLast, IsRecorded, begun, next_act};
+ghost use Rattle.record_laws.specs.Turns.{AreTurns};
 ghost use Rattle.record_model.specs.Recording.{Recording, Act, Done, saved, with_step, with_input};
 ghost use Rattle.record_model.specs.Released.{Sender};
 ghost use Rattle.record_model.specs.Standing.{IsStanding, KeepsTrue, FitAll};
@@ -22,6 +24,12 @@ ghost use Rattle.record_model.specs.Turn.{Plan, Over, gift_of, AreMoves, OfScrip
 pub fn turns_are_moves()
     ensures moves { (who : Sender) (pages : List ℕ) (j : JournalData) (b : List Part) (p : Agenda) (rel : List Piece) (dr : List Drop) (s at : State) (plan : Plan) (act : Act) (d : Done) → OfScript who pages j b p s plan act d at → AreMoves who j b p rel dr s at plan.quiet act d (behind_turn (is_some s.devices.clock) (gift_of s p) act p) }
     ensures ends { (s : State) (p : Agenda) → is_some s.devices.clock ≡ false → gift_of s p ≡ Over → next_act s p ≡ None }
+{}
+
+/// Turns one after another record: from an opened journal, over whatever turns, until the run has ended and is sealed, or until a
+/// batch can't be saved.
+pub fn turns_record()
+    ensures { (who : Sender) (j : JournalData) (p : Agenda) (s : State) (ts : List Run) (end last : Run) → IsOpened j s → AreTurns who (begun j s p) ts end → IsLast who end last → IsRecorded who j p last }
 {}
 
 /// The keep that is written behind a SNAP is true, where its pages are those that changed since the keep before it; an input

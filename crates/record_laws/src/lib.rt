@@ -4,4 +4,4 @@
 
 mod laws;
 
-pub use laws::{keeps_stay_true, turns_are_moves};
+pub use laws::{keeps_stay_true, turns_are_moves, turns_record};
