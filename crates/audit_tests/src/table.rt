@@ -126,13 +126,13 @@ fn push_front(
 }
 
 fn push_frame(out: &mut Vec<u8>, seq: u64, kind: u8, content: &[&[u8]]) -> Result<(), AllocError> {
-    let len: u8 = match kind {
-        7 => 10,
-        9 => 16,
-        _ => 40,
-    };
+    let mut len: usize = 0;
+    for part in content {
+        len = len.saturating_add(part.len());
+    }
     out.extend_from_slice(&seq.to_be_bytes())?;
-    out.extend_from_slice(&[kind, 0, 0, 0, len])?;
+    out.push(kind)?;
+    out.extend_from_slice(&(len as u32).to_be_bytes())?;
     for part in content {
         out.extend_from_slice(part)?;
     }

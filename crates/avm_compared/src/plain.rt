@@ -7,6 +7,7 @@ use avm_plain::{
 };
 use std::alloc::{AllocError, Global};
 use std::test::Fail;
+use test_guests::{ASKS, COUNTS, PRINTS, READS, RINGS};
 
 /// The state that runs the words in a machine of this version, in one page, with a snapshot each 1024 steps.
 fn booted(alloc: Global, version: u8, words: &[u32]) -> Result<State, AllocError> {
@@ -79,46 +80,6 @@ fn stands(alloc: Global, words: &[u32], entries: &[Entry]) -> Result<bool, Alloc
     replays(alloc, &guest(alloc, words)?, entries)
 }
 
-/// Prints `H` and a line end, and halts.
-const PRINTS: [u32; 6] = [
-    0x1000_02b7,
-    0x0480_0313,
-    0x0062_a023,
-    0x00a0_0313,
-    0x0062_a023,
-    0x0000_0073,
-];
-
-/// Waits for 1020 steps with `H` in the line, and halts at the step of the snapshot.
-const COUNTS: [u32; 8] = [
-    0x1000_02b7,
-    0x0480_0313,
-    0x0062_a023,
-    0x0000_0013,
-    0x1fd0_0393,
-    0xfff3_8393,
-    0xfe03_9ee3,
-    0x0000_0073,
-];
-
-/// Loads from CLK_LO, and halts.
-const ASKS: [u32; 3] = [0x1000_02b7, 0x0082_a883, 0x0000_0073];
-
-/// Loads from CON_IN, and halts.
-const READS: [u32; 3] = [0x1000_02b7, 0x0042_a883, 0x0000_0073];
-
-/// Its handler, the sixth word, prints what came in.
-const RINGS: [u32; 8] = [
-    0x1000_02b7,
-    0x0000_0317,
-    0x0103_0313,
-    0x0262_a823,
-    0x0000_006f,
-    0x0042_a403,
-    0x0082_a023,
-    0x0202_ac23,
-];
-
 /// A word, x1, x2, and x3 after it.
 const VALUES: [(u32, u32, u32, u32); 6] = [
     (0x0220_c1b3, 7, 0, 0xffff_ffff),
@@ -166,15 +127,15 @@ fn entries(rt: HostRuntime) -> Result<(), Fail> {
     let alloc = rt.alloc();
     let line = out(alloc, 5, b"H\n")?;
     let whole = [line, halt(6, 1, 0)];
-    assert!(rt; runs(alloc, &PRINTS, &[], 100, &whole)?);
-    assert!(rt; stands(alloc, &PRINTS, &whole)?);
-    assert!(rt; stands(alloc, &PRINTS, &whole[..1])?);
-    assert!(rt; stands(alloc, &PRINTS, &[])?);
-    assert!(rt; !stands(alloc, &PRINTS, &[out(alloc, 4, b"H\n")?, halt(6, 1, 0)])?);
+    assert!(rt; runs(alloc, PRINTS, &[], 100, &whole)?);
+    assert!(rt; stands(alloc, PRINTS, &whole)?);
+    assert!(rt; stands(alloc, PRINTS, &whole[..1])?);
+    assert!(rt; stands(alloc, PRINTS, &[])?);
+    assert!(rt; !stands(alloc, PRINTS, &[out(alloc, 4, b"H\n")?, halt(6, 1, 0)])?);
 
     let last = [out(alloc, 1024, b"H")?, halt(1024, 1, 0), snap(1024)];
-    assert!(rt; runs(alloc, &COUNTS, &[], 2000, &last)?);
-    assert!(rt; stands(alloc, &COUNTS, &last)?);
+    assert!(rt; runs(alloc, COUNTS, &[], 2000, &last)?);
+    assert!(rt; stands(alloc, COUNTS, &last)?);
     Ok(())
 }
 
@@ -183,10 +144,10 @@ fn clocks(rt: HostRuntime) -> Result<(), Fail> {
     let alloc = rt.alloc();
     let given = |count| Entry::Input(clock(count, 7));
     let want = [given(1), halt(3, 1, 0)];
-    assert!(rt; runs(alloc, &ASKS, &[clock(1, 7)], 100, &want)?);
-    assert!(rt; stands(alloc, &ASKS, &want)?);
-    assert!(rt; !stands(alloc, &ASKS, &[given(1), given(1), halt(3, 1, 0)])?);
-    assert!(rt; !stands(alloc, &READS, &[given(1)])?);
+    assert!(rt; runs(alloc, ASKS, &[clock(1, 7)], 100, &want)?);
+    assert!(rt; stands(alloc, ASKS, &want)?);
+    assert!(rt; !stands(alloc, ASKS, &[given(1), given(1), halt(3, 1, 0)])?);
+    assert!(rt; !stands(alloc, READS, &[given(1)])?);
     Ok(())
 }
 
@@ -199,7 +160,7 @@ fn newline(alloc: Global, count: u64) -> Result<Given, AllocError> {
 #[test]
 fn doorbell(rt: HostRuntime) -> Result<(), Fail> {
     let alloc = rt.alloc();
-    let rings = booted(alloc, 2, &RINGS)?;
+    let rings = booted(alloc, 2, RINGS)?;
     let one = [Entry::Input(newline(alloc, 10)?), out(alloc, 12, b"\n")?];
     assert!(rt; runs_from(alloc, &rings, &[newline(alloc, 10)?], 20, &one)?);
     let two = [
@@ -210,7 +171,7 @@ fn doorbell(rt: HostRuntime) -> Result<(), Fail> {
     ];
     let inputs = [newline(alloc, 10)?, newline(alloc, 11)?];
     assert!(rt; runs_from(alloc, &rings, &inputs, 40, &two)?);
-    assert!(rt; runs(alloc, &RINGS, &[], 20, &[halt(4, 8, 0x1000_0030)])?);
+    assert!(rt; runs(alloc, RINGS, &[], 20, &[halt(4, 8, 0x1000_0030)])?);
     Ok(())
 }
 

@@ -8,6 +8,7 @@ use guest_machine::{Input, Machine};
 use rv32_mem::Ram;
 use std::alloc::{AllocError, Global};
 use std::test::Fail;
+use test_guests::{COUNTS, PRINTS};
 
 /// The opcodes that have instructions, and two that have none.
 const OPCODES: [u32; 13] = [
@@ -20,28 +21,6 @@ const OPERANDS: [(u32, u32); 4] = [
     (0x8000_0040, 0xffff_ffff),
     (7, 0),
     (0xffff_ff80, 0x8000_0000),
-];
-
-/// A byte and a line end to the console.
-const PRINTS: [u32; 6] = [
-    0x1000_02b7,
-    0x0480_0313,
-    0x0062_a023,
-    0x00a0_0313,
-    0x0062_a023,
-    0x0000_0073,
-];
-
-/// A halt at the step of the snapshot.
-const COUNTS: [u32; 8] = [
-    0x1000_02b7,
-    0x0480_0313,
-    0x0062_a023,
-    0x0000_0013,
-    0x1fd0_0393,
-    0xfff3_8393,
-    0xfe03_9ee3,
-    0x0000_0073,
 ];
 
 /// Loads from CLK_LO, CLK_HI and CON_IN, a store to WAIT, and a halt.
@@ -144,8 +123,8 @@ fn every_opcode(rt: HostRuntime) -> Result<(), Fail> {
 #[test]
 fn guests(rt: HostRuntime) -> Result<(), Fail> {
     let alloc = rt.alloc();
-    assert!(rt; agree(alloc, &PRINTS, 8)?, "a line");
-    assert!(rt; agree(alloc, &COUNTS, 1030)?, "a snapshot");
+    assert!(rt; agree(alloc, PRINTS, 8)?, "a line");
+    assert!(rt; agree(alloc, COUNTS, 1030)?, "a snapshot");
     assert!(rt; agree(alloc, &READS, 8)?, "clock and console");
     assert!(rt; same_inst(0x0000_0073) && same_inst(0x0010_0073) && same_inst(0x8330_0f8f));
     Ok(())

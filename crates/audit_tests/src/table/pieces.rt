@@ -2,7 +2,7 @@
 
 use super::bank::{AUTHS, PUBLIC, ROOT};
 use super::cases::ROWS;
-use super::{Row, auth_file, push_letter, segment_file, signed};
+use super::{Row, auth_file, push_frame, push_letter, segment_file, signed};
 use auditor::{AuditStream, Verdict};
 use avm_hash::Digest;
 use log_chain::next;
@@ -205,6 +205,44 @@ fn as_many_snapshots_as_may_be(rt: HostRuntime) -> Result<(), AllocError> {
         assert_eq!(rt;
             verdict_in(alloc, &more, b"", FRONT, size),
             Some(Verdict::Malformed)
+        );
+    }
+    Ok(())
+}
+
+/// A segment of BOOT and console inputs, of so many bytes. The queue of 1024 bytes has no room for the fifth input.
+fn of_inputs(alloc: Global, len: usize) -> Result<Vec<u8>, AllocError> {
+    let mut out = of_four(alloc, b"B")?;
+    let mut seq = 2;
+    while out.len() < len {
+        // Behind a frame's 13 bytes stand the count, of 8, and 1 to 256 bytes that are typed in.
+        let left = len.saturating_sub(out.len()).saturating_sub(21);
+        let some = if left <= 256 { left } else { 235 };
+        let typed = [0x61; 256];
+        push_frame(
+            &mut out,
+            seq,
+            3,
+            &[&[0; 8], typed.get(..some).unwrap_or_default()],
+        )?;
+        seq = seq.wrapping_add(1);
+    }
+    Ok(out)
+}
+
+#[test]
+fn as_many_bytes_as_may_be(rt: HostRuntime) -> Result<(), AllocError> {
+    let alloc = rt.alloc();
+    let rows = [
+        (1 << 26, Verdict::Uncovered(6)),
+        ((1 << 26) + 1, Verdict::Malformed),
+    ];
+    for (len, verdict) in rows {
+        let segment = of_inputs(alloc, len)?;
+        assert_eq!(rt; segment.len(), len);
+        assert_eq!(rt;
+            verdict_in(alloc, &segment, b"", FRONT, 65536),
+            Some(verdict)
         );
     }
     Ok(())
