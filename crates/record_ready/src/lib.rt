@@ -1,0 +1,6 @@
+//! What a turn of a recorder finds (`specs/`).
+#![tactic(auto)]
+
+mod steady;
+
+pub use steady::is_steady;
