@@ -27,7 +27,7 @@ top_long : (h : List ℕ) (fs : List FrameData) → length h ≡ 32 → length (
 top_long h [] e = e
 top_long h (f ∷ fs) e = top_long (next_hash h f) fs (hash_long h f)
 
-first_some : (h : HeaderData) → (is_first h ≡ true) ⊎ (is_base h ≡ true) → 1 ≤ h.first
+pub first_some : (h : HeaderData) → (is_first h ≡ true) ⊎ (is_base h ≡ true) → 1 ≤ h.first
 first_some h (inl e) = let is = eqb-true h.first 1 (and_true (h.first == 1) (all_zero h.before) (and_true (h.first == 1 && all_zero h.before) (h.leaves == 0) e).0).0 in omega (arith, is)
 first_some h (inr e) = let lt = ltb-true 1 h.first (and_true (nat_lt 1 h.first) (nat_lt h.first (2 ^ 61)) (and_true (nat_lt 1 h.first && nat_lt h.first (2 ^ 61)) (has_early_count h.head) e).0).0 in omega (arith, lt)
 

@@ -1,8 +1,9 @@
 -- The examples, computed.
-use Rattle.std.proofs.Common.{◌≡◌, ℕ, List, true, false, Some, [], ◌∷◌, ◌++◌, refl}
+use Rattle.std.proofs.Common.{◌≡◌, ℕ, List, true, false, Some, [], ◌∷◌, ◌++◌, replicate, refl}
 use Rattle.std.proofs.lemmas.Slice.Eq.{bytes_eq-Decides}
 use Rattle.std.specs.Str.{bytes_eq}
 use Rattle.avm_num.specs.Walk.{items_of, behind_of}
+use Rattle.avm_model.specs.Chain.{next_hash}
 use Rattle.avm_model.specs.Content.{content_at}
 use Rattle.avm_model.specs.Frame.{frame_at}
 use Rattle.avm_model.specs.Parts.{ordinal_at, count_at}
@@ -14,7 +15,7 @@ use Rattle.journal_model.specs.Standing.{bound, signed_items}
 use Rattle.avm_model.specs.Hash.{hash_of}
 use Rattle.rebut_model.specs.Rebuts.{forged, rebuts}
 use Rattle.rebut_model.specs.Texts.{collide, differ, first_of_all, texts}
-use Rattle.journal_worked.specs.Stores.{read_from, shape_of, Broken, Seen_as, boot_record, seal_record, out_record, opened, made_store, made_fork}
+use Rattle.journal_worked.specs.Stores.{read_from, shape_of, Broken, Seen_as, boot_record, seal_record, out_record, opened, made_store, made_fork, boot_frame, sealed_store, sealed_fork}
 
 pub first : shape_of (read_from (1 ∷ seal_record ++ 0 ∷ [])) ≡ Broken 300
 unfolding journal_from next_gate items_at joined with_parts continues part_at frame_at ordinal_at count_at content_at items_of behind_of next_number entries used parts signing most_leaves height_of pages_in signed_items
@@ -38,6 +39,10 @@ never_signed = refl
 
 bytes_same : (x : List ℕ) → bytes_eq x x ≡ true
 bytes_same x = (bytes_eq-Decides x x).1 refl
+
+pub second_forged : rebuts opened.machine sealed_store sealed_fork ≡ Some (forged 1)
+unfolding rebuts bound signed_items entries parts
+second_forged = rw (bytes_same (next_hash (replicate 32 0) boot_frame)) refl
 
 -- equal texts are passed over
 same_passes : (x : List ℕ) → differ (texts x x) ≡ false

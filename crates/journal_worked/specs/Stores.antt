@@ -1,15 +1,17 @@
 -- A made-up store: its header, and the bytes of three records behind it.
 use Rattle.std.specs.Prelude.{Option, ℕ, List, [], ◌∷◌, length, map, replicate, None}
 use Rattle.avm_model.specs.Auth.{AuthData}
+use Rattle.avm_model.specs.Chain.{next_hash}
 use Rattle.avm_model.specs.Device.{fresh}
 use Rattle.avm_model.specs.Evidence.{EvidData, fork}
+use Rattle.avm_model.specs.Frame.{FrameData}
 use Rattle.avm_model.specs.Machine.{initial}
 use Rattle.journal_model.specs.Header.{HeaderData}
 use Rattle.journal_model.specs.Journal.{JournalData, Outcome, NoStore, Damaged, Is, journal_from, next_number}
 use Rattle.journal_model.specs.Standing.{SignedData, signed_items}
 use Rattle.avm_model.specs.declared.NotTaken.{NotTaken}
 use Rattle.avm_outside.specs.Feed.{Agenda, timed, console}
-use Rattle.journal_model.specs.Part.{Part}
+use Rattle.journal_model.specs.Part.{Part, entry, seal}
 use Rattle.record_model.specs.Recording.{Recording, Effect}
 
 -- a key of height 5, which has 32 leaves
@@ -80,3 +82,13 @@ made_auth seq fill = record { seq = seq; hash = replicate 32 fill; sig = [] }
 
 abbrev pub made_fork : EvidData
 made_fork = fork made_header.key 1 (replicate 32 0) [] (made_auth 2 7) (made_auth 1 8)
+
+-- a store of BOOT and a seal, which binds the pair of BOOT, and a fork that claims this pair and another
+abbrev pub boot_frame : FrameData
+boot_frame = record { seq = 1; kind = 1; content = replicate 40 0 }
+
+abbrev pub sealed_store : JournalData
+sealed_store = record { header = made_header; records = (entry boot_frame ∷ []) ∷ (seal ∷ []) ∷ []; mark = None }
+
+abbrev pub sealed_fork : EvidData
+sealed_fork = fork made_header.key 1 (replicate 32 0) [] (record { seq = 1; hash = next_hash (replicate 32 0) boot_frame; sig = [] }) (made_auth 9 8)

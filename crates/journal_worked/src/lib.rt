@@ -12,7 +12,7 @@ ghost use Rattle.rebut_model.specs.Texts.{collide, differ, entry_texts, first_of
 ghost use Rattle.record_model.specs.Released.{Sender};
 ghost use Rattle.record_model.specs.Recording.{StepOn, TakeIn, effect};
 ghost use Rattle.record_model.specs.Recorded.{next_act};
-ghost use Rattle.journal_worked.specs.Stores.{read_from, shape_of, Broken, Empty, Seen_as, boot_record, seal_record, out_record, opened, one_event, no_event, dropped_by, batch_of, made_store, made_fork};
+ghost use Rattle.journal_worked.specs.Stores.{read_from, shape_of, Broken, Empty, Seen_as, boot_record, seal_record, out_record, opened, one_event, no_event, dropped_by, batch_of, made_store, made_fork, sealed_store, sealed_fork};
 
 use avm_model::NotTaken;
 
@@ -38,10 +38,11 @@ pub fn worked_recording()
 {}
 
 /// What an owner answers to a fork. The texts stand from the last number of the evidence down, each number's link text before its
-/// content. A pair that was never bound is forged, the first such. Behind equal texts come two that differ and have one hash: a
-/// collision.
+/// content. A pair that was never bound is forged, the first such: of a store without a signing item the first, and where a seal has
+/// bound the first, the second. In such a list, behind equal texts, the first two that differ and have one hash are found.
 pub fn worked_rebuttal()
     ensures order { (h g : List ℕ) (a b c d : FrameData) → entry_texts h (a ∷ b ∷ []) g (c ∷ d ∷ []) ≡ texts (link (next_hash h a) b) (link (next_hash g c) d) ∷ texts b.content d.content ∷ texts (link h a) (link g c) ∷ texts a.content c.content ∷ [] }
     ensures forged { rebuts opened.machine made_store made_fork ≡ Some (forged 0) }
+    ensures second { rebuts opened.machine sealed_store sealed_fork ≡ Some (forged 1) }
     ensures collision { (same x y : List ℕ) → differ (texts x y) ≡ true → hash_of x ≡ hash_of y → first_of_all collide (texts same same ∷ texts x y ∷ []) ≡ Some (texts x y) }
 {}

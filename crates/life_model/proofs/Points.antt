@@ -1,16 +1,16 @@
 -- The items behind a front, from the header of the base that begins behind it.
-use Rattle.std.proofs.Common.{◌≡◌, ℕ, ◌+◌, Bool, true, false, List, [], ◌∷◌, ◌++◌, length, Option, None, Some, refl, sym, ap, subst, ◌∙◌, arith}
+use Rattle.std.proofs.Common.{◌≡◌, ℕ, ◌+◌, Bool, true, false, List, [], ◌∷◌, ◌++◌, length, Option, None, Some, refl, sym, ap, subst, ◌∙◌, append_assoc, arith}
 use Rattle.std.specs.Prelude.{fold, if◌then◌else◌}
 use Rattle.avm_model.specs.Basics.{flag}
 use Rattle.avm_model.specs.Chain.{top_of}
 use Rattle.avm_model.specs.Frame.{FrameData}
-use Rattle.avm_outside.specs.Outlet.{Piece}
 use Rattle.journal_model.specs.Header.{HeaderData}
 use Rattle.journal_model.specs.Part.{Part, entry, seal, keep, frames_in, is_signed_kind, signing}
 use Rattle.journal_model.specs.Standing.{LeavesFrom, SignedData, StandingData, behind, entry_signed, signed_from, signed_in, start}
 use Rattle.journal_model.proofs.Judging.{next_fold, used_fold}
-use Rattle.record_model.specs.Released.{Sender, part_pieces, pieces_from}
+use Rattle.record_model.specs.Released.{Sender, part_pieces}
 use Rattle.base_model.specs.Base.{past_keep, without_keep}
+use Rattle.life_model.specs.Life.{Told, number_of, told, told_from}
 
 hash_fold : (s : StandingData) (ps : List Part) → (fold behind s ps).hash ≡ top_of s.hash (frames_in ps)
 hash_fold s [] = refl
@@ -22,11 +22,11 @@ hash_fold s (keep k ∷ ps) = hash_fold s ps
 abbrev other : StandingData → Bool → Option SignedData → StandingData
 other s sealed signed = record s { sealed = sealed; signed = signed }
 
-pieces_other : (who : Sender) (s : StandingData) (sealed : Bool) (signed : Option SignedData) (ps : List Part) → pieces_from who (other s sealed signed) ps ≡ pieces_from who s ps
-pieces_other who s sealed signed [] = refl
-pieces_other who s sealed signed (entry f ∷ ps) = ap (λ (r : List Piece). part_pieces who s (entry f) ++ r) (pieces_other who (behind s (entry f)) false (if is_signed_kind f.kind then Some (entry_signed s f) else signed) ps)
-pieces_other who s sealed signed (seal ∷ ps) = refl
-pieces_other who s sealed signed (keep k ∷ ps) = pieces_other who s sealed signed ps
+told_other : (who : Sender) (s : StandingData) (sealed : Bool) (signed : Option SignedData) (ps : List Part) → told_from who (other s sealed signed) ps ≡ told_from who s ps
+told_other who s sealed signed [] = refl
+told_other who s sealed signed (entry f ∷ ps) = ap (λ (r : List Told). told f.seq (part_pieces who s (entry f)) ++ r) (told_other who (behind s (entry f)) false (if is_signed_kind f.kind then Some (entry_signed s f) else signed) ps)
+told_other who s sealed signed (seal ∷ ps) = refl
+told_other who s sealed signed (keep k ∷ ps) = told_other who s sealed signed ps
 
 signed_other : (s : StandingData) (sealed : Bool) (signed : Option SignedData) (ps : List Part) → signed_from (other s sealed signed) ps ≡ signed_from s ps
 signed_other s sealed signed [] = refl
@@ -60,20 +60,20 @@ placed_is : (s : StandingData) (next : ℕ) (hash : List ℕ) (used : ℕ) → I
 placed_is s next hash used a =
     ap (λ (n : ℕ). placed s n s.hash s.used) a.next_is ∙ ap (λ (h : List ℕ). placed s next h s.used) a.hash_is ∙ ap (λ (u : ℕ). placed s next hash u) a.used_is
 
-pieces_here : (who : Sender) (s : StandingData) (next : ℕ) (hash : List ℕ) (used : ℕ) (f : FrameData) (ps : List Part) → pieces_from who (placed s next hash used) (entry f ∷ ps) ≡ pieces_from who (base_point next hash used) (entry f ∷ ps)
-pieces_here who s next hash used f ps = ap (λ (r : List Piece). part_pieces who (base_point next hash used) (entry f) ++ r)
-    (pieces_other who (behind (base_point next hash used) (entry f)) false (if is_signed_kind f.kind then Some (entry_signed (base_point next hash used) f) else s.signed) ps)
+told_here : (who : Sender) (s : StandingData) (next : ℕ) (hash : List ℕ) (used : ℕ) (f : FrameData) (ps : List Part) → told_from who (placed s next hash used) (entry f ∷ ps) ≡ told_from who (base_point next hash used) (entry f ∷ ps)
+told_here who s next hash used f ps = ap (λ (r : List Told). told f.seq (part_pieces who (base_point next hash used) (entry f)) ++ r)
+    (told_other who (behind (base_point next hash used) (entry f)) false (if is_signed_kind f.kind then Some (entry_signed (base_point next hash used) f) else s.signed) ps)
 
 signed_here : (s : StandingData) (next : ℕ) (hash : List ℕ) (used : ℕ) (f : FrameData) (ps : List Part) → signed_from (placed s next hash used) (entry f ∷ ps) ≡ signed_from (base_point next hash used) (entry f ∷ ps)
 signed_here s next hash used f ps = ap (λ (r : List SignedData). signed_in (base_point next hash used) (entry f) ++ r)
     (signed_other (behind (base_point next hash used) (entry f)) false (if is_signed_kind f.kind then Some (entry_signed (base_point next hash used) f) else s.signed) ps)
 
 -- a keep releases and signs nothing
-pieces_past : (who : Sender) (s : StandingData) (ps : List Part) → pieces_from who s (past_keep ps) ≡ pieces_from who s ps
-pieces_past who s [] = refl
-pieces_past who s (entry f ∷ ps) = refl
-pieces_past who s (seal ∷ ps) = refl
-pieces_past who s (keep k ∷ ps) = refl
+told_past : (who : Sender) (s : StandingData) (ps : List Part) → told_from who s (past_keep ps) ≡ told_from who s ps
+told_past who s [] = refl
+told_past who s (entry f ∷ ps) = refl
+told_past who s (seal ∷ ps) = refl
+told_past who s (keep k ∷ ps) = refl
 
 signed_past : (s : StandingData) (ps : List Part) → signed_from s (past_keep ps) ≡ signed_from s ps
 signed_past s [] = refl
@@ -81,11 +81,11 @@ signed_past s (entry f ∷ ps) = refl
 signed_past s (seal ∷ ps) = refl
 signed_past s (keep k ∷ ps) = refl
 
-pub pieces_at : (who : Sender) (s : StandingData) (next : ℕ) (hash : List ℕ) (used : ℕ) (f : FrameData) (ps : List Part) → IsAt s next hash used
-    → pieces_from who s (entry f ∷ ps) ≡ pieces_from who (base_point next hash used) (without_keep (entry f ∷ ps))
-pieces_at who s next hash used f ps a =
-    ap (λ (t : StandingData). pieces_from who t (entry f ∷ ps)) (placed_is s next hash used a) ∙ pieces_here who s next hash used f ps
-    ∙ sym (ap (λ (r : List Piece). part_pieces who (base_point next hash used) (entry f) ++ r) (pieces_past who (behind (base_point next hash used) (entry f)) ps))
+pub told_at : (who : Sender) (s : StandingData) (next : ℕ) (hash : List ℕ) (used : ℕ) (f : FrameData) (ps : List Part) → IsAt s next hash used
+    → told_from who s (entry f ∷ ps) ≡ told_from who (base_point next hash used) (without_keep (entry f ∷ ps))
+told_at who s next hash used f ps a =
+    ap (λ (t : StandingData). told_from who t (entry f ∷ ps)) (placed_is s next hash used a) ∙ told_here who s next hash used f ps
+    ∙ sym (ap (λ (r : List Told). told f.seq (part_pieces who (base_point next hash used) (entry f)) ++ r) (told_past who (behind (base_point next hash used) (entry f)) ps))
 
 pub signed_at : (s : StandingData) (next : ℕ) (hash : List ℕ) (used : ℕ) (f : FrameData) (ps : List Part) → IsAt s next hash used
     → signed_from s (entry f ∷ ps) ≡ signed_from (base_point next hash used) (without_keep (entry f ∷ ps))
@@ -111,3 +111,9 @@ leaves_used s (keep k ∷ ps) = leaves_used s ps
 pub leaves_append : (n : ℕ) (a b : List SignedData) → LeavesFrom n a → LeavesFrom (n + length a) b → LeavesFrom n (a ++ b)
 leaves_append n [] b x y = let z : n + 0 ≡ n = omega arith in subst (λ (k : ℕ). LeavesFrom k b) z y
 leaves_append n (s ∷ a) b x y = let z : n + length (s ∷ a) ≡ (n + 1) + length a = omega arith in (x.0, leaves_append (n + 1) a b x.1 (subst (λ (k : ℕ). LeavesFrom k b) z y))
+
+-- ---- what is released for further parts stands behind what was released before
+
+pub told_append : (who : Sender) (s : StandingData) (a b : List Part) → told_from who s (a ++ b) ≡ told_from who s a ++ told_from who (fold behind s a) b
+told_append who s [] b = refl
+told_append who s (x ∷ a) b = ap (λ (ps : List Told). told (number_of s x) (part_pieces who s x) ++ ps) (told_append who (behind s x) a b) ∙ sym (append_assoc (told (number_of s x) (part_pieces who s x)) (told_from who (behind s x) a) (told_from who (fold behind (behind s x) a) b))

@@ -7,7 +7,7 @@ use Rattle.avm_outside.specs.Outside.{BothTold}
 use Rattle.avm_outside.specs.Disk.{Torn, Follows, Only, Elapses, overwritten}
 use Rattle.avm_outside.specs.Moments.{LeavesOnly, TornFrom}
 use Rattle.avm_outside.proofs.Runs.{started, goes_on, joined, weaker, write_leaves}
-use Rattle.avm_outside.proofs.Images.{begins_torn, written_behind, overwritten_torn}
+use Rattle.avm_outside.proofs.Images.{begins_torn, overwritten_torn}
 use Rattle.base_model.specs.Spare.{IsBlank, IsFree, IsPrepared}
 use Rattle.spare_disk.specs.Activating.{Each}
 use Rattle.spare_disk.specs.Preparing.{HasPiece, IsBegun, IsWiped}

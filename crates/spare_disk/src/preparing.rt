@@ -10,8 +10,8 @@ ghost use Rattle.spare_disk.specs.Preparing.{IsBegun, IsWiped, HasPiece};
 
 use avm_outside::{Disk, Failed, write_kept};
 
-/// Sees that a byte stands at place 0 that isn't a journal's first, and gives the spare's length before. That byte is written where
-/// the spare has at most one.
+/// Syncs, and writes 00 at place 0 where the spare has at most one byte, so that a byte stands there that isn't a journal's first. Gives
+/// the spare's length before.
 pub fn begin<E: Disk>(spare: &mut E) -> Result<u64, Failed>
     requires free { IfSome (E.seen spare.old) IsFree }
     ensures begun { IfOk result (λ len. BothTold (E.seen spare.old) (E.seen spare.new) (IsBegun len (E.may_leave spare.new))) }
