@@ -126,13 +126,14 @@ fn push_front(
 }
 
 fn push_frame(out: &mut Vec<u8>, seq: u64, kind: u8, content: &[&[u8]]) -> Result<(), AllocError> {
-    let mut len: usize = 0;
+    let mut len: u64 = 0;
     for part in content {
-        len = len.saturating_add(part.len());
+        len = len.saturating_add(part.len() as u64);
     }
     out.extend_from_slice(&seq.to_be_bytes())?;
     out.push(kind)?;
-    out.extend_from_slice(&(len as u32).to_be_bytes())?;
+    let [_, _, _, _, a, b, c, d] = len.to_be_bytes();
+    out.extend_from_slice(&[a, b, c, d])?;
     for part in content {
         out.extend_from_slice(part)?;
     }

@@ -213,8 +213,10 @@ fn as_many_snapshots_as_may_be(rt: HostRuntime) -> Result<(), AllocError> {
 /// A segment of BOOT and console inputs, of so many bytes. The queue of 1024 bytes has no room for the fifth input.
 fn of_inputs(alloc: Global, len: usize) -> Result<Vec<u8>, AllocError> {
     let mut out = of_four(alloc, b"B")?;
-    let mut seq = 2;
-    while out.len() < len {
+    for seq in 2..300_000 {
+        if out.len() >= len {
+            break;
+        }
         // Behind a frame's 13 bytes stand the count, of 8, and 1 to 256 bytes that are typed in.
         let left = len.saturating_sub(out.len()).saturating_sub(21);
         let some = if left <= 256 { left } else { 235 };
@@ -225,7 +227,6 @@ fn of_inputs(alloc: Global, len: usize) -> Result<Vec<u8>, AllocError> {
             3,
             &[&[0; 8], typed.get(..some).unwrap_or_default()],
         )?;
-        seq = seq.wrapping_add(1);
     }
     Ok(out)
 }
