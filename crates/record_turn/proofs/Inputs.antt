@@ -19,6 +19,10 @@ pub console_ram : (s : State) (bytes : List ℕ) → (taken s (OfferConsole byte
 unfolding taken
 console_ram s bytes = refl
 
+pub console_clock : (s t : State) (bytes : List ℕ) → t ≡ taken s (OfferConsole bytes) → t.devices.clock ≡ s.devices.clock
+unfolding taken
+console_clock s t bytes e = ap (λ (x : State). x.devices.clock) e
+
 -- the RAM is as before
 pub same_ram : (m n : MachineState) (o : Offer) → n.state ≡ taken m.state o → (taken m.state o).ram ≡ m.state.ram → n.dirty ≡ m.dirty → ram_in n ≡ ram_in m
 same_ram m n o e ram dirty = let r : n.state.ram ≡ m.state.ram = ap (λ (x : State). x.ram) e ∙ ram in rw (r, dirty) refl

@@ -11,6 +11,7 @@ use Rattle.journal_model.specs.Journal.{JournalData, with_record}
 use Rattle.journal_model.specs.Part.{Part, entry}
 use Rattle.journal_model.specs.Standing.{standing}
 use Rattle.jrnl_store.specs.declared.fault.Stop.{Stop}
+use Rattle.jrnl_store.specs.declared.fault.Stop.TheVariants.{LeavesSpent, Full, DiskFault, OutletFault, FeedFault}
 use Rattle.record_batch.specs.Batch.{BatchData, with_part}
 use Rattle.record_batch.specs.Spelled.{numbered}
 use Rattle.record_kept.specs.Tickets.{AreKeptOf}
@@ -27,7 +28,7 @@ use Rattle.record_parts.proofs.Acting.{drop_opening}
 use Rattle.record_parts.proofs.Effects.{IsNext, input_closing, input_opening}
 use Rattle.record_parts.proofs.Ends.{Closing, ends_open, ends_refused, ends_saved, made_same, rec}
 use Rattle.record_parts.proofs.Releases.{quiet_pieces}
-use Rattle.record_turn.specs.Leaves.{Acted, Settled}
+use Rattle.record_turn.specs.Leaves.{Acted, OutletCounts, Settled}
 
 -- what a batch that was quiet leaves of the tickets
 pub settled_kept : (rows : List KeptRow) (j : JournalData) (b : List Part) → AreQuiet b → AreKeptOf rows j → AreKeptOf rows (with_record j b)
@@ -129,3 +130,11 @@ pub acted_at : {H : Type 0} (adding : Piece → H → H) (tearing : Piece → H 
 acted_at adding tearing key quiet act before rows after batch u v f old new result next flight e r h =
     subst (λ (x : State). Acted adding tearing (record { key = key; own = x.devices.own }) quiet act before rows after batch x f old new result next flight) (sym e)
     (subst (λ (x : List KeptRow). Acted adding tearing (record { key = key; own = u.devices.own }) quiet act before rows x batch u f old new result next flight) (sym r) h)
+
+-- a stop counts alike whatever is answered where there is none
+pub counts_err : (T U : Type 0) (before now : ℕ) (stop : Stop) → OutletCounts {T = T} before now (Err stop) → OutletCounts {T = U} before now (Err stop)
+counts_err T U before now LeavesSpent h = h
+counts_err T U before now Full h = h
+counts_err T U before now DiskFault h = h
+counts_err T U before now OutletFault h = h
+counts_err T U before now FeedFault h = absurd h

@@ -16,8 +16,9 @@ use Rattle.record_model.specs.Released.{Sender}
 use Rattle.record_model.specs.Turn.{IsSpell}
 use Rattle.record_parts.specs.Ends.{Acts, EndsAs, Faults, SavedAs, SealsAs}
 use Rattle.record_parts.specs.declared.answers.Sealed.{Sealed}
-use Rattle.record_parts.specs.declared.answers.Sealed.TheVariants.{Again, Done}
+use Rattle.record_parts.specs.declared.answers.Sealed.TheVariants.{Again, Done, Stopped as SealStopped, Ended as SealEnded}
 use Rattle.record_parts.specs.declared.answers.Turn.{Turn}
+use Rattle.record_parts.specs.declared.answers.Turn.TheVariants.{Stopped, Ended}
 use Rattle.record_store.specs.Saving.{Holds}
 
 -- Of a disk whose journal was j: it is the own disk of the next journal; at any moment of the call a crash leaves an image that stands for
@@ -76,3 +77,14 @@ DiskCounts before now (Err Full) = now ≡ before
 DiskCounts before now (Err DiskFault) = Rises before now
 DiskCounts before now (Err OutletFault) = now ≡ before
 DiskCounts before now (Err FeedFault) = ⊥
+
+-- what isn't stopped answers neither of the two that say so
+abbrev pub IsPlain : Turn → Type 0
+IsPlain (Stopped stop) = ⊥
+IsPlain (Ended stop) = ⊥
+IsPlain turn = Unit {0}
+
+abbrev pub IsPlainSeal : Sealed → Type 0
+IsPlainSeal (SealStopped stop) = ⊥
+IsPlainSeal (SealEnded stop) = ⊥
+IsPlainSeal sealed = Unit {0}

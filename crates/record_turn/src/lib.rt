@@ -9,3 +9,4 @@ mod settling;
 mod stepping;
 
 pub use desk::Desk;
+pub use finishing::has_numbers;

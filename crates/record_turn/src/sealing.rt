@@ -13,7 +13,7 @@ ghost use Rattle.record_model.specs.Recording.{is_none};
 ghost use Rattle.record_parts.specs.Outs.{auth_by};
 ghost use Rattle.record_store.specs.Open.{IsSame};
 ghost use Rattle.record_turn.specs.Desk.{HasDisk, IsReady, rows_of};
-ghost use Rattle.record_turn.specs.Leaves.{DiskCounts, Leaves, OutletCounts, Seals};
+ghost use Rattle.record_turn.specs.Leaves.{DiskCounts, IsPlainSeal, Leaves, OutletCounts, Seals};
 
 use crate::desk::Desk;
 use avm_outside::{Disk, Failed, Outlet};
@@ -55,6 +55,7 @@ impl Desk {
         ensures seals { BothTold (D.seen disk.old) (D.seen disk.new) (λ was now. (j : JournalData) → IsOwn (kept_of self.old.store.journal) (D.may_leave disk.old) was j
             → Leaves D.moment D.left_since disk.old disk.new (kept_of self.new.store.journal) (D.may_leave disk.new) now j
             (Seals O.adding O.tearing (record { key = self.old.press.key; own = self.old.machine.state.devices.own }) (record { journal = j; batch = self.old.store.batch.parts; machine = self.old.machine.state }) (rows_of self.old.kept) self.new.store.batch.parts (record { disk_before = D.faults disk.old; disk_after = D.faults disk.new; outlet_before = O.faults outlet.old; outlet_after = O.faults outlet.new }) (O.held outlet.old) (O.held outlet.new) result)) }
+        ensures plain { IfOk result IsPlainSeal }
         ensures ready { OnOk result (IsReady (kept_of self.new.store.journal) self.new.store.batch) }
         ensures machine { self.new.machine ≡ self.old.machine }
         ensures kept { rows_of self.new.kept ≡ rows_of self.old.kept }

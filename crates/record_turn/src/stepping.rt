@@ -1,6 +1,6 @@
 //! Turns that make steps.
 
-ghost use Rattle.std.specs.Prelude.{◌≡◌, ◌-◌, ◌<◌, ◌^◌, true, None, OnOk, is_some};
+ghost use Rattle.std.specs.Prelude.{◌≡◌, ◌-◌, ◌<◌, ◌^◌, true, None, IfOk, OnOk, is_some};
 ghost use Rattle.avm_model.specs.Machine.{asks};
 ghost use Rattle.avm_outside.specs.Outside.{BothTold};
 ghost use Rattle.journal_model.specs.Journal.{JournalData};
@@ -10,7 +10,7 @@ ghost use Rattle.record_model.specs.Recording.{AnswerClock, StepOn};
 ghost use Rattle.record_model.specs.Turn.{goes_on};
 ghost use Rattle.record_store.specs.Open.{IsSame};
 ghost use Rattle.record_turn.specs.Desk.{HasDisk, IsReady, rows_of};
-ghost use Rattle.record_turn.specs.Leaves.{Acted, DiskCounts, Leaves, OutletCounts, Spelled};
+ghost use Rattle.record_turn.specs.Leaves.{Acted, DiskCounts, IsPlain, Leaves, OutletCounts, Spelled};
 
 use crate::desk::Desk;
 use crate::finishing::has_numbers;
@@ -38,6 +38,8 @@ impl Desk {
             → Leaves D.moment D.left_since disk.old disk.new (kept_of self.new.store.journal) (D.may_leave disk.new) now j
             (Spelled O.adding O.tearing (record { key = self.old.press.key; own = self.new.machine.state.devices.own }) until (record { journal = j; batch = self.old.store.batch.parts; machine = self.old.machine.state }) (rows_of self.old.kept) (rows_of self.new.kept) self.new.store.batch.parts self.new.machine.state (record { disk_before = D.faults disk.old; disk_after = D.faults disk.new; outlet_before = O.faults outlet.old; outlet_after = O.faults outlet.new }) (O.held outlet.old) (O.held outlet.new) result)) }
         ensures ready { OnOk result (IsReady (kept_of self.new.store.journal) self.new.store.batch) }
+        ensures plain { IfOk result IsPlain }
+        ensures clock { self.new.machine.state.devices.clock ≡ None }
         ensures key { self.new.press.key ≡ self.old.press.key }
         ensures same { IsSame (kept_of self.old.store.journal) (kept_of self.new.store.journal) }
         ensures disk_faults { DiskCounts (D.faults disk.old) (D.faults disk.new) result }
@@ -67,6 +69,8 @@ impl Desk {
             → Leaves D.moment D.left_since disk.old disk.new (kept_of self.new.store.journal) (D.may_leave disk.new) now j
             (Acted O.adding O.tearing (record { key = self.old.press.key; own = self.new.machine.state.devices.own }) 0 StepOn (record { journal = j; batch = self.old.store.batch.parts; machine = self.old.machine.state }) (rows_of self.old.kept) (rows_of self.new.kept) self.new.store.batch.parts self.new.machine.state (record { disk_before = D.faults disk.old; disk_after = D.faults disk.new; outlet_before = O.faults outlet.old; outlet_after = O.faults outlet.new }) (O.held outlet.old) (O.held outlet.new) result)) }
         ensures ready { OnOk result (IsReady (kept_of self.new.store.journal) self.new.store.batch) }
+        ensures plain { IfOk result IsPlain }
+        ensures clock { self.new.machine.state.devices.clock ≡ None }
         ensures key { self.new.press.key ≡ self.old.press.key }
         ensures same { IsSame (kept_of self.old.store.journal) (kept_of self.new.store.journal) }
         ensures disk_faults { DiskCounts (D.faults disk.old) (D.faults disk.new) result }
@@ -99,6 +103,8 @@ impl Desk {
             → Leaves D.moment D.left_since disk.old disk.new (kept_of self.new.store.journal) (D.may_leave disk.new) now j
             (Acted O.adding O.tearing (record { key = self.old.press.key; own = self.new.machine.state.devices.own }) 0 (AnswerClock value) (record { journal = j; batch = self.old.store.batch.parts; machine = self.old.machine.state }) (rows_of self.old.kept) (rows_of self.new.kept) self.new.store.batch.parts self.new.machine.state (record { disk_before = D.faults disk.old; disk_after = D.faults disk.new; outlet_before = O.faults outlet.old; outlet_after = O.faults outlet.new }) (O.held outlet.old) (O.held outlet.new) result)) }
         ensures ready { OnOk result (IsReady (kept_of self.new.store.journal) self.new.store.batch) }
+        ensures plain { IfOk result IsPlain }
+        ensures clock { self.new.machine.state.devices.clock ≡ None }
         ensures key { self.new.press.key ≡ self.old.press.key }
         ensures same { IsSame (kept_of self.old.store.journal) (kept_of self.new.store.journal) }
         ensures disk_faults { DiskCounts (D.faults disk.old) (D.faults disk.new) result }

@@ -92,3 +92,13 @@ invariant_of-self g c =
       low = d.low;
       leaves = d.leaves;
     }
+
+pub returns-in-Ok-clause-clock : goal.returns-in-Ok-clause-clock
+returns-in-Ok-clause-clock g c =
+    let s = c.args.self.now.machine.state in
+    ap (λ (x : State). x.devices.clock) c.finish.ensures.state ∙ clock_used s c.step_on.new.machine.state _ c.args.value c.requires.asks (subst (λ (x : State). step_of x ≡ Some (c.step_on.new.machine.state, outs_made c.step_on.new.machine.state c.step_on.new.outs)) (c.take_clock.ensures.taken.machine ∙ clock_taken s c.args.value) c.if-not-step_on.ensures.yes)
+
+pub returns-in-Err-clause-clock : goal.returns-in-Err-clause-clock
+returns-in-Err-clause-clock g c =
+    let s = c.args.self.now.machine.state in
+    ap (λ (x : State). x.devices.clock) c.finish.ensures.state ∙ clock_used s c.step_on.new.machine.state _ c.args.value c.requires.asks (subst (λ (x : State). step_of x ≡ Some (c.step_on.new.machine.state, outs_made c.step_on.new.machine.state c.step_on.new.outs)) (c.take_clock.ensures.taken.machine ∙ clock_taken s c.args.value) c.if-not-step_on.ensures.yes)

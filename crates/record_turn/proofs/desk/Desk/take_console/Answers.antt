@@ -3,7 +3,7 @@ use Rattle.avm_model.specs.Machine.{MachineState}
 use Rattle.avm_model.specs.Memory.{RamState}
 use Rattle.avm_model.specs.Pages.{sha_hashes}
 use Rattle.page_tree.specs.Nodes.{IsStale}
-use Rattle.record_turn.proofs.Inputs.{console_ram, ram_after}
+use Rattle.record_turn.proofs.Inputs.{console_clock, console_ram, ram_after}
 use Rattle.avm_model.specs.Offer.{OfferConsole}
 use Rattle.jrnl_store.specs.Kept.{kept as kept_of}
 use Rattle.record_batch.specs.Batch.{BatchData}
@@ -11,8 +11,9 @@ use Rattle.record_parts.proofs.Effects.{input_quiet}
 use Rattle.record_parts.specs.Outs.{AreQuiet}
 use Rattle.record_turn.proofs.Batches.{input_open, input_size, small_size}
 use Rattle.record_turn.proofs.Finishes.{next_for}
-use Rattle.record_turn.proofs.Settles.{acted_at, console_again, dropped_at, taken_settled, taken_unsettled}
+use Rattle.record_turn.proofs.Settles.{acted_at, console_again, counts_err, dropped_at, taken_settled, taken_unsettled}
 use Rattle.record_turn.proofs.Told.{told_as, told_still}
+use Rattle.record_parts.specs.declared.answers.Turn.{Turn}
 use Rattle.record_turn.specs.Desk.{rows_of}
 use Rattle.record_turn.proofs.desk.Desk.take_console.Goals as goal
 
@@ -76,3 +77,17 @@ returns-in-Err-settle-clause-acts g c =
     let quiet = subst (λ (x : BatchData). AreQuiet x.parts) (sym c.in-Ok.ensures.taken.batch) (input_quiet b s.count o c.requires.ready.quiet refl c.take_console.ensures.fits) in
     told_as g.D.Disk.moment g.D.Disk.left_since g.D.Disk.seen g.D.Disk.may_leave c.args.disk.now c.settle.new.disk k (kept_of c.settle.new.self.store.journal) _ _ (rw c.in-Err-settle.is at c.settle.ensures.settled)
     (λ j was own next flight h. acted_at g.O.Outlet.adding g.O.Outlet.tearing c.args.self.now.press.key _ _ _ (rows_of c.args.self.now.kept) (rows_of c.settle.new.self.kept) _ c.take_console.new.machine.state c.settle.new.self.machine.state _ _ _ _ next flight (ap (λ (m : MachineState). m.state) c.settle.ensures.machine) c.settle.ensures.kept (taken_unsettled g.O.Outlet.adding g.O.Outlet.tearing _ (rows_of c.args.self.now.kept) (g.O.Outlet.held c.args.outlet.now) j b c.take_console.new.batch s c.take_console.new.machine.state o (next_for k (g.D.Disk.may_leave c.args.disk.now) was j b own c.requires.ready.opens) c.in-Ok.ensures.taken refl quiet (Unit {0}) c.settle.new.self.store.batch.parts (g.D.Disk.faults c.args.disk.now) (g.D.Disk.faults c.settle.new.disk) (g.O.Outlet.faults c.args.outlet.now) c.in-Err-settle.stop next flight h))
+
+pub returns-in-Ok-settle-clause-clock : goal.returns-in-Ok-settle-clause-clock
+returns-in-Ok-settle-clause-clock g c =
+    ap (λ (m : MachineState). m.state.devices.clock) c.settle.ensures.machine ∙ console_clock c.args.self.now.machine.state c.take_console.new.machine.state c.args.bytes.now c.in-Ok.ensures.taken.machine
+
+pub returns-in-Err-settle-clause-clock : goal.returns-in-Err-settle-clause-clock
+returns-in-Err-settle-clause-clock g c =
+    ap (λ (m : MachineState). m.state.devices.clock) c.settle.ensures.machine ∙ console_clock c.args.self.now.machine.state c.take_console.new.machine.state c.args.bytes.now c.in-Ok.ensures.taken.machine
+
+pub returns-in-Err-settle-clause-outlet_faults : goal.returns-in-Err-settle-clause-outlet_faults
+returns-in-Err-settle-clause-outlet_faults g c =
+    let n = g.O.Outlet.faults c.args.outlet.now in
+    let h = c.settle.ensures.outlet_faults n in
+    counts_err (Unit {0}) Turn n n c.in-Err-settle.stop (rw c.in-Err-settle.is at h)

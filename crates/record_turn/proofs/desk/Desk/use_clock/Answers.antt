@@ -1,4 +1,5 @@
-use Rattle.std.proofs.Common.{arith}
+use Rattle.std.proofs.Common.{ap, arith, ◌∙◌}
+use Rattle.avm_model.specs.Machine.{State}
 use Rattle.avm_model.proofs.ReferenceLaws.{step_counts}
 use Rattle.jrnl_store.specs.Kept.{kept as kept_of}
 use Rattle.record_turn.proofs.Batches.{small_size}
@@ -30,3 +31,9 @@ finish-requires-clause-count g c =
     let n = step_counts c.args.self.now.machine.state c.step_on.new.machine.state _ c.if-not-step_on.ensures.yes in
     let m = c.requires.count in
     omega (arith, n, m)
+
+pub returns-in-Ok-clause-clock : goal.returns-in-Ok-clause-clock
+returns-in-Ok-clause-clock g c = ap (λ (s : State). s.devices.clock) c.finish.ensures.state ∙ clock_gone c.args.self.now.machine.state c.step_on.new.machine.state _ c.requires.asks c.if-not-step_on.ensures.yes
+
+pub returns-in-Err-clause-clock : goal.returns-in-Err-clause-clock
+returns-in-Err-clause-clock g c = ap (λ (s : State). s.devices.clock) c.finish.ensures.state ∙ clock_gone c.args.self.now.machine.state c.step_on.new.machine.state _ c.requires.asks c.if-not-step_on.ensures.yes

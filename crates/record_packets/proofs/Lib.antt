@@ -1,0 +1,4 @@
+pub mod Frames
+pub mod Parcels
+pub mod Comings
+pub mod Takings
