@@ -6,10 +6,10 @@ ghost use Rattle.log_entry.specs.Views.{frame_view};
 ghost use Rattle.rebut_judge.specs.Going.{Steps};
 
 use crate::judge::Judge;
-use rebut_pass::Pass;
 use avm_num::NoMemory;
 use jrnl_store::Item;
 use log_entry::Frame;
+use rebut_pass::Pass;
 use std::alloc::Global;
 
 /// A journal's entries up to a number, judged one after another, and whether one behind it has come.

@@ -40,8 +40,18 @@ fn commits(root: &Digest, count: u64, frame: &Frame<'_>) -> bool
     ensures { result ≡ commits_as root.now.0 count (content_at frame.now.kind frame.now.content.now) }
 {
     match content(frame) {
-        Some(Content::Boot { count: told, root: own }) => has(root, count, &own, told),
-        Some(Content::Snap { count: told, root: own }) => has(root, count, &own, told),
+        Some(
+            Content::Boot {
+                count: told,
+                root: own,
+            },
+        ) => has(root, count, &own, told),
+        Some(
+            Content::Snap {
+                count: told,
+                root: own,
+            },
+        ) => has(root, count, &own, told),
         _ => false,
     }
 }

@@ -7,10 +7,9 @@ ghost use Rattle.rebut_pass.specs.Items.{frame_in, HasForm};
 ghost use Rattle.rebut_judge.specs.Reading.{Reads};
 
 use crate::judge::Judge;
-use rebut_pass::Pass;
-use rebut_pass::Sought;
 use avm_num::NoMemory;
 use jrnl_store::Item;
+use rebut_pass::{Pass, Sought};
 use rebut_texts::Walk;
 use std::alloc::Global;
 
