@@ -1,0 +1,11 @@
+//! An open recorder: its turns, and its seal.
+#![tactic(auto)]
+
+mod asking;
+mod going;
+mod recorder;
+mod shows;
+mod turning;
+
+pub use record_parts::{Sealed, Stop, Turn};
+pub use recorder::Recorder;
