@@ -1,0 +1,9 @@
+pub mod Taking
+pub mod Entries
+pub mod Covers
+pub mod Segments
+pub mod Starts
+pub mod Headers
+pub mod Answering
+pub mod Whole
+pub mod Last
