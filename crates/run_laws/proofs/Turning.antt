@@ -10,9 +10,8 @@ use Rattle.avm_model.specs.Reference.{Made, step_of, take_of, timed}
 use Rattle.avm_model.specs.declared.NotTaken.{NotTaken}
 use Rattle.avm_model.specs.declared.Status.{Status}
 use Rattle.avm_model.specs.declared.Status.TheVariants.{Running, Waiting as Waits, Halted as IsHalted}
-use Rattle.avm_outside.specs.Feed.{Agenda, Event, Timed, answer_at, answer_of, clock_of, console, due_of, packet, resend}
+use Rattle.avm_outside.specs.Feed.{Agenda, Timed, answer_of, clock_of}
 use Rattle.avm_outside.specs.Outlet.{Piece}
-use Rattle.avm_outside.specs.declared.due.Due.TheVariants.{Later as DueLater, End as DueEnd}
 use Rattle.journal_model.specs.Journal.{JournalData}
 use Rattle.journal_model.specs.Part.{Part}
 use Rattle.journal_model.specs.Saving.{CommitRefusal, NoLeaf, NoRoom, commit_refusal}
@@ -21,57 +20,16 @@ use Rattle.record_laws.specs.Turns.{at_machine}
 use Rattle.record_laws.proofs.Moving.{later}
 use Rattle.record_laws.proofs.Turning.{over_is_end}
 use Rattle.jrnl_store.specs.declared.fault.Stop.{Stop}
-use Rattle.record_model.specs.Recorded.{Drop, Run, act_of, drops_of, is_due, ran}
+use Rattle.record_model.specs.Recorded.{Drop, Run, act_of, drops_of, ran}
 use Rattle.record_model.specs.Recording.{Act, AnswerClock, Done, Effect, Recording, SendAgain, StepOn, TakeIn, closed, closed_by, dropped_for, effect, finished, given_at as given_offer, is_large, sent_again, stepped_on, take_in, taken_in, with_input, with_step}
 use Rattle.record_model.specs.Released.{Sender}
 use Rattle.record_model.specs.Turn.{Answer, Waiting as Ways, Halted as HaltedNow, End as EndNow, Comes, Gift, IsPlan, IsPlanBefore, IsPlanOf, IsPlanRunning, Later, Over, Plan, answer_for, behind_turn, doing, gift_at, gift_of, idling}
 use Rattle.record_parts.specs.Ends.{EndsAs, Faults, turn_of}
 use Rattle.record_parts.specs.declared.answers.Turn.{Turn}
 use Rattle.record_turn.specs.Leaves.{Acted}
-use Rattle.recorder.specs.Turns.{Does, Feeds, Idle, IsFirst, IsGiven, IsValue, Planned, act_before, act_by, act_for, behind, due_in}
+use Rattle.recorder.specs.Turns.{Does, Feeds, Idle, IsValue, Planned, act_before, act_by, act_for, behind}
+use Rattle.turn_laws.proofs.Following.{gift_is}
 use Rattle.run_laws.specs.Run.{Behind, IsOver, Stands, StopsRun, dropped_by, stop_of}
-
--- ---- what a script gives
-
-no_end : (e : Event) → due_of e ≡ DueEnd → ⊥
-no_end (console bytes) q = absurd cc
-no_end (packet bytes) q = absurd cc
-no_end (resend peer) q = absurd cc
-
-no_later : (e : Event) (c : ℕ) → due_of e ≡ DueLater c → ⊥
-no_later (console bytes) c q = absurd cc
-no_later (packet bytes) c q = absurd cc
-no_later (resend peer) c q = absurd cc
-
-over_is : (g : Gift) → due_in g ≡ DueEnd → g ≡ Over
-over_is (Comes what) q = absurd (no_end what q)
-over_is (Later c) q = absurd cc
-over_is Over q = refl
-
-later_is : (g : Gift) (c : ℕ) → due_in g ≡ DueLater c → g ≡ Later c
-later_is (Comes what) c q = absurd (no_later what c q)
-later_is (Later d) c q = let e : d ≡ c = cc in ap Later e
-later_is Over c q = absurd cc
-
-comes_is : (g : Gift) (t : Timed) (ts : List Timed) → IsFirst g (t ∷ ts) → due_in g ≡ due_of t.event → g ≡ Comes t.event
-comes_is (Comes what) t ts first q = ap Comes (sym first)
-comes_is (Later c) t ts first q = absurd (no_later t.event c (sym q))
-comes_is Over t ts first q = absurd (no_end t.event (sym q))
-
-given_at : (s : State) (p : Agenda) (g : Gift) (es : List Timed) → due_in g ≡ answer_at es p.ending s.count (is_running s.status) → IsFirst g es → g ≡ gift_at s p es
-given_at s p g [] q first = go (is_due p.ending s) refl q
-  where
-    go : (b : Bool) → is_due p.ending s ≡ b → due_in g ≡ (if b then DueEnd else DueLater p.ending) → g ≡ gift_at s p []
-    go true e h = rw e (over_is g h)
-    go false e h = rw e (later_is g p.ending h)
-given_at s p g (t ∷ ts) q first = go (is_due t.at s) refl q
-  where
-    go : (b : Bool) → is_due t.at s ≡ b → due_in g ≡ (if b then due_of t.event else DueLater t.at) → g ≡ gift_at s p (t ∷ ts)
-    go true e h = rw e (comes_is g t ts first h)
-    go false e h = rw e (later_is g t.at h)
-
-pub given : (s : State) (p : Agenda) (g : Gift) → IsGiven answer_of s g p → g ≡ gift_of s p
-given s p g i = given_at s p g p.events i.due i.first
 
 -- ---- the turn
 
@@ -130,12 +88,12 @@ script_of Over value s p plan q v = q
 
 pub script_plan : (pending : Bool) (g : Gift) (value : ℕ) (s : State) (p script : Agenda) (plan : Plan) → Feeds pending answer_of s g value p script → IsPlan pending g value s plan → IsPlan pending (gift_of s p) (clock_of p) s plan
 script_plan true g value s p script plan f q = q
-script_plan false g value s p script plan f q = subst (λ (x : Gift). IsPlanOf x (clock_of p) s plan) (given s p g f.given) (script_of g value s p plan q f.value_is)
+script_plan false g value s p script plan f q = subst (λ (x : Gift). IsPlanOf x (clock_of p) s plan) (gift_is s g p f.given) (script_of g value s p plan q f.value_is)
 
 pub script_left : (pending : Bool) (g : Gift) (value : ℕ) (s : State) (p script : Agenda) (act : Act) → Feeds pending answer_of s g value p script → act_for pending g value s ≡ Some act → behind_turn pending (gift_of s p) act p ≡ script
 script_left true g value s p script act f e = sym f.left
 script_left false g value s p script act f e =
-    ap (λ (x : Gift). behind_turn false x act p) (sym (given s p g f.given)) ∙ sym (f.left ∙ ap (λ (o : Option Act). behind false g o p) e)
+    ap (λ (x : Gift). behind_turn false x act p) (sym (gift_is s g p f.given)) ∙ sym (f.left ∙ ap (λ (o : Option Act). behind false g o p) e)
 
 -- ---- what was dropped
 
@@ -233,7 +191,7 @@ idle_over (Later c) value s p plan same q h = by_status s.status refl q
 
 idle_end : (pending : Bool) (g : Gift) (value : ℕ) (s : State) (p script : Agenda) (plan : Plan) → Feeds pending answer_of s g value p script → IsPlan pending g value s plan → plan.act ≡ None → (pending ≡ false) × (plan.idle ≡ EndNow) × (gift_of s p ≡ Over)
 idle_end true g value s p script plan f q h = absurd (let e : Some StepOn ≡ None = sym (ap (λ (x : Plan). x.act) q) ∙ h in cc e)
-idle_end false g value s p script plan f q h = let o = idle_over g value s p plan (given s p g f.given) q h in (refl, o.0, o.1)
+idle_end false g value s p script plan f q h = let o = idle_over g value s p plan (gift_is s g p f.given) q h in (refl, o.0, o.1)
 
 -- nothing of the script is used
 idle_left : (pending : Bool) (g : Gift) (value : ℕ) (s : State) (p script : Agenda) (plan : Plan) → Feeds pending answer_of s g value p script → IsPlan pending g value s plan → plan.act ≡ None → p ≡ script
