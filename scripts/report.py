@@ -173,8 +173,9 @@ class Report:
             return []
         counts = [m.count_of(c) for _, _, c in self.frames]
         s = self.state
+        pages = len(s.ram) // m.PAGE
         return [("entries", "%d to %d" % (self.start, self.frames[-1][0])), ("instructions", "%d to %d" % (counts[0], counts[-1])),
-                ("machine", "id %d, %d pages, a snapshot every %d" % (s.own, len(s.ram) // m.PAGE, s.snap)),
+                ("machine", "id %d, %d %s, a snapshot every %d" % (s.own, pages, "page" if pages == 1 else "pages", s.snap)),
                 ("peers", ", ".join(str(p["id"]) for p in s.peers) or "none"), ("signed positions", str(len(self.auths))),
                 ("key", self.key[24:].hex()[:16] + ".." if self.key else "none given")]
 
@@ -187,8 +188,9 @@ class Report:
         for i, lane in enumerate(LANES):
             y = 36 + 44 * i
             out.append('<text x="0" y="%d" class="lane">%s</text><path class="rail" d="M%d %dH%d"/>' % (y + 4, lane, left, y, left + wide))
-        for k in range(6):
-            at = low + (high - low) * k // 5
+        parts = high - low if high - low <= 8 else 5
+        for k in range(parts + 1):
+            at = low + (high - low) * k // parts
             out.append('<path class="grid" d="M%.1f 18V194"/><text class="tick" x="%.1f" y="214" text-anchor="middle">%s</text>'
                        % (x(at), x(at), "{:,}".format(at)))
         for (seq, kind, content), count in zip(self.frames, counts):
