@@ -3,7 +3,7 @@ Usage: audit.py PROGRAM PEER MACHINE HASH FOLDER [STEPS [AUTHS]], where PEER is 
 HASH that of bench/hash.
 
 Prints instructions a second of the replay of a segment in 256 pages with a snapshot each 2^20 steps, beside the machine's steps
-alone on the same five instructions, and their ratio; the time of an audit with
+alone on the same five instructions, and their ratio; the time of `view` at the last count beside the audit; the time of an audit with
 authenticators (height 10, w 8) beside as many plain calls of `verify`, and their ratio; the time of an audit of a segment of
 nearly 2^26 bytes with nearly 2^24 bytes of authenticators; the memory of the audit of a segment of nearly 2^26 bytes and one page, without
 evidence, beside that of the shortest segment, and its time beside hashing the same bytes once; the time of as many authenticators as a file
@@ -144,6 +144,13 @@ def replay(program, machine, folder, steps):
           % (line, steps, took, steps / took / 1e6, peak, steps / alone / 1e6, alone / took))
 
 
+def viewing(program, folder, count):
+    """The state at the last count beside the audit that gets there."""
+    audit, _ = best(3, [os.path.abspath(program), "audit", "--segment", "loop.seg"], folder)
+    view, text = best(3, [os.path.abspath(program), "view", "--segment", "loop.seg", "--count", str(count)], folder)
+    print("view: %s in %.2f s, its audit in %.2f s; ratio %.2f" % (text.split("\n")[0], view, audit, view / audit))
+
+
 def main():
     program, peer, machine, hash_program, folder = sys.argv[1:6]
     steps = int(sys.argv[6]) if len(sys.argv) > 6 else 10_000_000
@@ -153,7 +160,9 @@ def main():
     state = m.Machine(snap=1 << 20, pages=256, ram=image.ljust(4096 * 256, b"\0"))
     frames = fast_frames(state, steps)
     put(folder, "loop.seg", m.put_segment(1, bytes(32), state, frames))
-    replay(program, machine, folder, int.from_bytes(frames[-1][2][:8], "big"))
+    last = int.from_bytes(frames[-1][2][:8], "big")
+    replay(program, machine, folder, last)
+    viewing(program, folder, last)
     authenticators(program, peer, folder, many)
     short_entries(program, hash_program, folder)
     longest(program, folder)
