@@ -1,0 +1,4 @@
+pub mod Enrolling
+pub mod Grants
+pub mod PrivateKeys
+pub mod Rolling

@@ -1,0 +1,3 @@
+pub mod Enroll
+pub mod Granting
+pub mod Roll
