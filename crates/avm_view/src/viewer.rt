@@ -1,9 +1,10 @@
 //! A segment's machine, from count to count.
 
-ghost use Rattle.std.specs.Prelude.{◌≡◌, ◌≤◌, ◌==◌, ◌+◌, not, Some, IfOk, IfErr};
+ghost use Rattle.std.specs.Prelude.{◌≡◌, ◌≤◌, ◌<◌, ◌==◌, ◌+◌, ◌-◌, ◌^◌, not, true, Some, IfOk, IfErr};
 ghost use Rattle.std.specs.Bool.{OnTrue, OnFalse};
 ghost use Rattle.avm_model.specs.Head.{HeadData};
 ghost use Rattle.avm_model.specs.HeadReading.{head_of};
+ghost use Rattle.avm_model.specs.Machine.{Step, can_step};
 ghost use Rattle.avm_model.specs.Reference.{timed};
 ghost use Rattle.avm_model.specs.Segment.{SegmentData, whole_segment_of};
 ghost use Rattle.seg_file.specs.Views.{segment_view};
@@ -18,7 +19,7 @@ use crate::faults::ViewFault;
 use crate::inputs::take_inputs;
 use crate::opening::judge;
 use avm_num::{NoMemory, are_bytes};
-use guest_machine::Machine;
+use guest_machine::{Machine, Outs};
 use log_entry::Frames;
 use seg_file::{Segment, read_segment};
 use snap_state::read_head;
@@ -33,6 +34,8 @@ pub struct Viewer<'a> {
     frames: Frames<'a>,
     first: u64,
     last: u64,
+    // what a step puts out, which nobody asks for
+    outs: Outs,
 }
 
 impl<'a> Model for Viewer<'a> {
@@ -58,7 +61,17 @@ fn start<'a>(alloc: Global, parts: &Segment<'a>) -> Result<Viewer<'a>, NoMemory>
         frames: Frames::new(parts.frames),
         first,
         last: last_count(Frames::new(parts.frames)),
+        outs: Outs::none(),
     })
+}
+
+/// One step of a machine that can make one.
+fn step_on(machine: &mut Machine, outs: &mut Outs)
+    requires can { can_step machine.old.state ≡ true }
+    requires room { machine.old.state.count < 2 ^ 62 - 1 }
+    ensures state { machine.new.state ≡ (Step machine.old.state).state }
+{
+    machine.step_into(outs);
 }
 
 impl<'a> Viewer<'a> {
@@ -122,7 +135,7 @@ impl<'a> Viewer<'a> {
             return false;
         }
         take_inputs(&mut self.machine, &mut self.frames);
-        let _ = self.machine.step();
+        step_on(&mut self.machine, &mut self.outs);
         true
     }
 }
