@@ -1,0 +1,4 @@
+pub mod Running
+pub mod Starting
+pub mod Whole
+pub mod Sought
