@@ -1,3 +1,4 @@
+pub mod Opened
 pub mod Props
 pub mod Recorder
 pub mod Turns
