@@ -20,6 +20,7 @@ else
 fi
 kept=$here/tour
 skipped=0
+stored=yes
 
 # say SENTENCE: what the next command shows.
 say() {
@@ -38,19 +39,25 @@ show() {
     printf '\n'
 }
 
-# avm LINES STATUS COMMAND ..: prints and runs a command. Where the program answers that it isn't built, `built` becomes no.
+# avm LINES STATUS COMMAND ..: prints and runs a command. Where the program answers that it isn't built, or no run of the program
+# is in the store, `built` becomes no.
 avm() {
     want=$1 status=$2 got=0
     shift 2
     show avm "$@"
-    (cd "$folder" && "$program" "$@") >"$folder/printed" 2>"$folder/complained" || got=$?
-    cat "$folder/printed"
     built=yes
-    case $got:$1:$(cat "$folder/printed") in
-        "2:$1:refused notbuilt" | '3:view:refused words' | '3:retain:refused words') built=no ;;
+    case $stored:$1 in
+        no:list | no:export | no:rebut | no:retain) built=no ;;
+        *)
+            (cd "$folder" && "$program" "$@") >"$folder/printed" 2>"$folder/complained" || got=$?
+            cat "$folder/printed"
+            case $got:$1:$(cat "$folder/printed") in
+                "2:$1:refused notbuilt" | '3:view:refused words' | '3:retain:refused words') built=no ;;
+            esac
+            ;;
     esac
     if [ "$built" = no ]; then
-        echo "(this program doesn't build \`$1\` yet: the tour goes on with the files that are kept for it)"
+        echo "(this program doesn't build \`$1\` yet, or no run is in the store: the tour goes on with the files that are kept for it)"
         skipped=$((skipped + 1))
         return 0
     fi

@@ -1,4 +1,4 @@
-//! The program: its words, the files of the system, and standard output.
+//! The program: its words, the files of the system, a file as the store, and standard output.
 #![tactic(auto)]
 
 mod counted;
@@ -7,7 +7,7 @@ mod real_files;
 mod real_sink;
 
 use avm_outside::Sink;
-use avm_top::avm;
+use avm_top::{avm, store_word};
 use real_disk::RealDisk;
 use real_files::RealFiles;
 use real_sink::RealSink;
@@ -17,13 +17,13 @@ use std::{env, io};
 
 fn main(rt: HostRuntime) -> ExitCode {
     let mut files = RealFiles::new(&rt);
-    let mut disk = RealDisk::absent();
     let mut spare = RealDisk::absent();
     let mut out = RealSink::new(&rt);
     let words = match words(&rt) {
         Ok(words) => words,
         Err(AllocError) => return no_memory(&mut out),
     };
+    let mut disk = store(&rt, &words);
     let status = avm(
         rt.alloc(),
         &words,
@@ -33,6 +33,22 @@ fn main(rt: HostRuntime) -> ExitCode {
         &mut out,
     );
     ExitCode::from(status)
+}
+
+// The file of a job's store, which a command that makes a store also makes; no disk where it doesn't open.
+fn store(rt: &HostRuntime, words: &[String]) -> RealDisk {
+    match store_word(words) {
+        Some(name) => RealDisk::open(rt, name, makes_store(words)),
+        None => RealDisk::absent(),
+    }
+}
+
+// Whether the command makes a store or a roll.
+fn makes_store(words: &[String]) -> bool {
+    match words {
+        [command, ..] => matches!(command.as_str(), "format" | "roll"),
+        [] => false,
+    }
 }
 
 // The end of a run whose words find no memory, as `avm` ends for want of it.

@@ -1,52 +1,104 @@
 -- How a job runs and what its status says, by the definitions of its command.
-use Rattle.std.specs.Prelude.{◌≡◌, ◌≢◌, ℕ, List, [], ◌∷◌, Option, None, Some, codes}
-use Rattle.avm_script.specs.Job.{JobData, SignedData, keygen, audit, check, view_at, view_changes}
+use Rattle.std.specs.Prelude.{◌≡◌, ◌≢◌, ℕ, Bool, true, false, List, [], ◌∷◌, Option, None, Some, codes}
+use Rattle.avm_script.specs.Job.{JobData, SignedData, keygen, format, audit, check, list, roll, enroll, widen, narrow, view_at, view_changes}
 use Rattle.audit_command.specs.Audit.{audit_writes}
 use Rattle.audit_command.specs.Meaning.{AuditMeans, CheckMeans, IsAcceptedLater}
 use Rattle.audit_command.specs.Outcomes.{AuditRuns, CheckRuns}
 use Rattle.command_parts.specs.FileMap.{FileMap, SameFiles}
 use Rattle.command_parts.specs.Printing.{line, Printed}
+use Rattle.format_command.specs.Inputs.{Names}
+use Rattle.format_command.specs.Meaning.{FormatMeans}
+use Rattle.format_command.specs.Outcomes.{Counted, FormatEnds}
+use Rattle.hss_command.specs.Narrow.{NarrowEnds, NarrowMeans}
+use Rattle.hss_command.specs.Widen.{WidenEnds, WidenMeans}
 use Rattle.keygen_command.specs.Keygen.{KeygenRuns, key_of_words}
+use Rattle.list_command.specs.Meaning.{ListMeans}
+use Rattle.list_command.specs.Outcomes.{ListEnds}
+use Rattle.roll_command.specs.Enroll.{EnrollEnds, EnrollMeans}
+use Rattle.roll_command.specs.Enroll as enrolling
+use Rattle.roll_command.specs.Roll.{RollEnds, RollMeans}
 use Rattle.view_command.specs.Meaning.{ViewMeans}
 use Rattle.view_command.specs.Outcomes.{ViewEnds}
 use Rattle.view_command.specs.Showing.{ShowsState, ShowsChanges, StateOutOfRange, ChangesOutOfRange}
 use Rattle.view_command.specs.declared.shown.StateAsked.{StateAsked}
 
--- a key's two files have different names, and so have the key and the evidence of an audit
-abbrev pub NamesApart : JobData → Type 0
-NamesApart (keygen height w id seed key public) = key ≢ public
-NamesApart (audit segment image (Some names)) = names.key ≢ names.evidence
-NamesApart job = Unit {0}
-
--- the names of the files that a job may change
+-- the names of the files that a job may change; a store is no file
 abbrev pub written_by : Option JobData → List (List ℕ)
 written_by (Some (keygen height w id seed key public)) = key ∷ public ∷ []
 written_by (Some (audit segment image signed)) = audit_writes signed
+written_by (Some (enroll store key public endorse)) = endorse ∷ []
+written_by (Some (widen endorse auths into)) = into ∷ []
+written_by (Some (narrow key auths public into)) = public ∷ into ∷ []
 written_by job = []
+
+-- the job makes calls on its store's disk
+abbrev pub uses_disk : Option JobData → Bool
+uses_disk (Some (format store key config image)) = true
+uses_disk (Some (list store)) = true
+uses_disk (Some (roll store key)) = true
+uses_disk (Some (enroll store key public endorse)) = true
+uses_disk job = false
+
+-- and it may change bytes of it
+abbrev pub writes_disk : Option JobData → Bool
+writes_disk (Some (format store key config image)) = true
+writes_disk (Some (roll store key)) = true
+writes_disk (Some (enroll store key public endorse)) = true
+writes_disk job = false
 
 abbrev pub state_asked : ℕ → ℕ → ℕ → StateAsked
 state_asked count from words = record { count = count; from = from; words = words }
 
--- one line says why nothing is done, and no file is touched
-abbrev pub Refused : List ℕ → ℕ → FileMap → FileMap → ℕ → ℕ → ℕ → ℕ → Option (List ℕ) → Option (List ℕ) → ℕ → Type 0
-Refused text status old new files_before files_now before now printed_old printed_new result =
-    SameFiles old new × (files_now ≡ files_before) × Printed (line text ∷ []) status before now printed_old printed_new result
+abbrev pub format_names : List ℕ → List ℕ → List ℕ → Names
+format_names key config image = record { key = key; config = config; image = image }
 
--- a run of a job, by the files before and after it, their counts of faults and the sink's, what is printed, and the status
-abbrev pub RunsAs : Option JobData → FileMap → FileMap → ℕ → ℕ → ℕ → ℕ → Option (List ℕ) → Option (List ℕ) → ℕ → Type 0
-RunsAs None old new = Refused (codes "refused words") 3 old new
-RunsAs (Some (keygen height w id seed key public)) old new = KeygenRuns (key_of_words height w id seed) key public old new
-RunsAs (Some (audit segment image signed)) old new = AuditRuns segment image signed old new
-RunsAs (Some (check key evidence)) old new = CheckRuns key evidence old new
-RunsAs (Some (view_at segment count from words)) old new = ViewEnds (ShowsState (state_asked count from words)) (StateOutOfRange (state_asked count from words)) (old segment)
-RunsAs (Some (view_changes segment at)) old new = ViewEnds (ShowsChanges at) (ChangesOutOfRange at) (old segment)
-RunsAs (Some job) old new = Refused (codes "refused notbuilt") 2 old new
+abbrev pub enroll_names : List ℕ → List ℕ → List ℕ → enrolling.Names
+enroll_names key public endorse = record { key = key; public = public; endorse = endorse }
+
+-- one line says why nothing is done, and no file is touched
+abbrev pub Refused : List ℕ → ℕ → FileMap → FileMap → Counted → Option (List ℕ) → Option (List ℕ) → ℕ → Type 0
+Refused text status old new n before after result =
+    SameFiles old new × (n.files_now ≡ n.files_before) × Printed (line text ∷ []) status n.out_before n.out_now before after result
+
+-- A run of a job: the files before and after it; what the disk tells before and after it, the images that a crash may leave
+-- then, and `quiet`, that no call was made on it; the counts of faults; what is printed before and after it, and the status.
+abbrev pub RunsAs : Option JobData → FileMap → FileMap → Option (List ℕ) → Option (List ℕ) → (List ℕ → Type 0) → Type 0 → Counted → Option (List ℕ) → Option (List ℕ) → ℕ → Type 0
+RunsAs None old new was is images quiet n before after result = Refused (codes "refused words") 3 old new n before after result
+RunsAs (Some (keygen height w id seed key public)) old new was is images quiet n before after result =
+    KeygenRuns (key_of_words height w id seed) key public old new n.files_before n.files_now n.out_before n.out_now before after result
+RunsAs (Some (format store key config image)) old new was is images quiet n before after result =
+    FormatEnds (format_names key config image) old was is images quiet n before after result
+RunsAs (Some (list store)) old new was is images quiet n before after result =
+    (n.files_now ≡ n.files_before) × ListEnds was n.disk_before n.disk_now n.out_before n.out_now before after result
+RunsAs (Some (audit segment image signed)) old new was is images quiet n before after result =
+    AuditRuns segment image signed old new n.files_before n.files_now n.out_before n.out_now before after result
+RunsAs (Some (check key evidence)) old new was is images quiet n before after result =
+    CheckRuns key evidence old new n.files_before n.files_now n.out_before n.out_now before after result
+RunsAs (Some (view_at segment count from words)) old new was is images quiet n before after result =
+    ViewEnds (ShowsState (state_asked count from words)) (StateOutOfRange (state_asked count from words)) (old segment) n.files_before n.files_now n.out_before n.out_now before after result
+RunsAs (Some (view_changes segment at)) old new was is images quiet n before after result =
+    ViewEnds (ShowsChanges at) (ChangesOutOfRange at) (old segment) n.files_before n.files_now n.out_before n.out_now before after result
+RunsAs (Some (roll store key)) old new was is images quiet n before after result =
+    RollEnds (old key) was is images quiet n before after result
+RunsAs (Some (enroll store key public endorse)) old new was is images quiet n before after result =
+    EnrollEnds (enroll_names key public endorse) old new was is images quiet n before after result
+RunsAs (Some (widen endorse auths into)) old new was is images quiet n before after result =
+    WidenEnds endorse auths into old new n.files_before n.files_now n.out_before n.out_now before after result
+RunsAs (Some (narrow key auths public into)) old new was is images quiet n before after result =
+    NarrowEnds key auths public into old new n.files_before n.files_now n.out_before n.out_now before after result
+RunsAs (Some job) old new was is images quiet n before after result = Refused (codes "refused notbuilt") 2 old new n before after result
 
 -- what the status says
-abbrev pub MeansAs : Option JobData → FileMap → FileMap → Option (List ℕ) → Option (List ℕ) → ℕ → Type 0
-MeansAs (Some (audit segment image signed)) old new before after result =
+abbrev pub MeansAs : Option JobData → FileMap → FileMap → Option (List ℕ) → Option (List ℕ) → (List ℕ → Type 0) → Option (List ℕ) → Option (List ℕ) → ℕ → Type 0
+MeansAs (Some (audit segment image signed)) old new was is images before after result =
     AuditMeans segment image signed old new before after result × ((names : SignedData) → signed ≡ Some names → names.key ≢ names.evidence → result ≡ 1 → IsAcceptedLater names old new)
-MeansAs (Some (check key evidence)) old new before after result = CheckMeans key evidence old result
-MeansAs (Some (view_at segment count from words)) old new before after result = ViewMeans (ShowsState (state_asked count from words)) (old segment) before after result
-MeansAs (Some (view_changes segment at)) old new before after result = ViewMeans (ShowsChanges at) (old segment) before after result
-MeansAs job old new before after result = Unit {0}
+MeansAs (Some (check key evidence)) old new was is images before after result = CheckMeans key evidence old result
+MeansAs (Some (view_at segment count from words)) old new was is images before after result = ViewMeans (ShowsState (state_asked count from words)) (old segment) before after result
+MeansAs (Some (view_changes segment at)) old new was is images before after result = ViewMeans (ShowsChanges at) (old segment) before after result
+MeansAs (Some (format store key config image)) old new was is images before after result = FormatMeans (format_names key config image) old was is images result
+MeansAs (Some (list store)) old new was is images before after result = ListMeans was before after result
+MeansAs (Some (roll store key)) old new was is images before after result = RollMeans (old key) was is images result
+MeansAs (Some (enroll store key public endorse)) old new was is images before after result = EnrollMeans (enroll_names key public endorse) old new was is images result
+MeansAs (Some (widen endorse auths into)) old new was is images before after result = WidenMeans endorse auths into old new result
+MeansAs (Some (narrow key auths public into)) old new was is images before after result = NarrowMeans key auths public into old new result
+MeansAs job old new was is images before after result = Unit {0}

@@ -1,18 +1,28 @@
 // The top call: what the words ask for is done by the command's crate.
-ghost use Rattle.std.specs.Prelude.{◌≡◌, ◌≢◌, ◌⊎◌, ℕ, List, Option, Some, map, string_bytes};
-ghost use Rattle.avm_script.specs.Job.{SignedData, audit as audit_job, check as check_job, view_at as view_at_job, view_changes as view_changes_job, job_of};
+ghost use Rattle.std.specs.Prelude.{◌≡◌, ◌≢◌, ◌⊎◌, ◌≤◌, ℕ, List, Option, None, Some, false, map, string_bytes};
+ghost use Rattle.avm_script.specs.Job.{SignedData, audit as audit_job, check as check_job, enroll as enroll_job, format as format_job, list as list_job, narrow as narrow_job, roll as roll_job, view_at as view_at_job, view_changes as view_changes_job, widen as widen_job, job_of, store_of};
 ghost use Rattle.avm_outside.specs.Outside.{Rises};
 ghost use Rattle.audit_command.specs.Audit.{IsNoneOf};
 ghost use Rattle.audit_command.specs.Meaning.{AuditMeans, CheckMeans, IsAcceptedLater};
+ghost use Rattle.format_command.specs.Meaning.{FormatMeans};
+ghost use Rattle.hss_command.specs.Narrow.{NarrowMeans};
+ghost use Rattle.hss_command.specs.Widen.{WidenMeans};
+ghost use Rattle.list_command.specs.Meaning.{ListMeans};
+ghost use Rattle.roll_command.specs.Enroll.{EnrollMeans};
+ghost use Rattle.roll_command.specs.Roll.{RollMeans};
 ghost use Rattle.view_command.specs.Meaning.{ViewMeans};
 ghost use Rattle.view_command.specs.Showing.{ShowsState, ShowsChanges};
-ghost use Rattle.avm_top.specs.Jobs.{RunsAs, MeansAs, state_asked, written_by};
+ghost use Rattle.avm_top.specs.Jobs.{RunsAs, MeansAs, enroll_names, format_names, state_asked, uses_disk, writes_disk, written_by};
 
 use crate::refusing::{refuse_unbuilt, refuse_words};
 use audit_command::{audit, check};
 use avm_outside::{Disk, Files, Sink};
 use avm_script::{BadWords, Job, job};
+use format_command::format;
+use hss_command::{narrow, widen};
 use keygen_command::{key_of, keygen};
+use list_command::list;
+use roll_command::{enroll, roll};
 use std::alloc::Global;
 use view_command::{StateAsked, view_at, view_changes};
 
@@ -27,34 +37,58 @@ pub fn avm<F: Files, D: Disk, E: Disk, S: Sink>(
     spare: &mut E,
     out: &mut S,
 ) -> u8
-    // a run of the words' command, by the files that it finds and leaves, and its lines and status
-    ensures ends { RunsAs (job_of (map string_bytes words.now)) (F.file files.old) (F.file files.new) (F.faults files.old) (F.faults files.new) (S.faults out.old) (S.faults out.new) (S.written out.old) (S.written out.new) result }
+    // a run of the words' command, by the files and the disk that it finds and leaves, and its lines and status
+    ensures ends { RunsAs (job_of (map string_bytes words.now)) (F.file files.old) (F.file files.new) (D.seen disk.old) (D.seen disk.new) (D.may_leave disk.new) (disk.new ≡ disk.old)
+        (record { files_before = F.faults files.old; files_now = F.faults files.new; disk_before = D.faults disk.old; disk_now = D.faults disk.new; out_before = S.faults out.old; out_now = S.faults out.new })
+        (S.written out.old) (S.written out.new) result }
     // 4 exactly where a count rose
-    ensures four { result ≡ 4 → Rises (F.faults files.old) (F.faults files.new) ⊎ Rises (S.faults out.old) (S.faults out.new) }
-    ensures not_four { result ≢ 4 → (F.faults files.new ≡ F.faults files.old) × (S.faults out.new ≡ S.faults out.old) }
+    ensures four { result ≡ 4 → Rises (F.faults files.old) (F.faults files.new) ⊎ (Rises (D.faults disk.old) (D.faults disk.new) ⊎ Rises (S.faults out.old) (S.faults out.new)) }
+    ensures not_four { result ≢ 4 → (F.faults files.new ≡ F.faults files.old) × (D.faults disk.new ≡ D.faults disk.old) × (S.faults out.new ≡ S.faults out.old) }
     // no other file is changed
     ensures files { (n : List ℕ) → IsNoneOf (written_by (job_of (map string_bytes words.now))) n → F.file files.new n ≡ F.file files.old n }
     // what 0 and 1 mean
     ensures audit { (segment : List ℕ) (image : Option (List ℕ)) (signed : Option SignedData) → Some (audit_job segment image signed) ≡ job_of (map string_bytes words.now) → AuditMeans segment image signed (F.file files.old) (F.file files.new) (S.written out.old) (S.written out.new) result }
     ensures check { (key evidence : List ℕ) → Some (check_job key evidence) ≡ job_of (map string_bytes words.now) → CheckMeans key evidence (F.file files.old) result }
+    ensures format { (store key config image : List ℕ) → Some (format_job store key config image) ≡ job_of (map string_bytes words.now) → FormatMeans (format_names key config image) (F.file files.old) (D.seen disk.old) (D.seen disk.new) (D.may_leave disk.new) result }
+    ensures list { (store : List ℕ) → Some (list_job store) ≡ job_of (map string_bytes words.now) → ListMeans (D.seen disk.old) (S.written out.old) (S.written out.new) result }
     ensures view { (segment : List ℕ) (count from shown : ℕ) → Some (view_at_job segment count from shown) ≡ job_of (map string_bytes words.now) → ViewMeans (ShowsState (state_asked count from shown)) (F.file files.old segment) (S.written out.old) (S.written out.new) result }
     ensures changes { (segment : List ℕ) (at : ℕ) → Some (view_changes_job segment at) ≡ job_of (map string_bytes words.now) → ViewMeans (ShowsChanges at) (F.file files.old segment) (S.written out.old) (S.written out.new) result }
+    ensures roll { (store key : List ℕ) → Some (roll_job store key) ≡ job_of (map string_bytes words.now) → RollMeans (F.file files.old key) (D.seen disk.old) (D.seen disk.new) (D.may_leave disk.new) result }
+    ensures enroll { (store key public endorse : List ℕ) → Some (enroll_job store key public endorse) ≡ job_of (map string_bytes words.now) → EnrollMeans (enroll_names key public endorse) (F.file files.old) (F.file files.new) (D.seen disk.old) (D.seen disk.new) (D.may_leave disk.new) result }
+    ensures widen { (endorse auths into : List ℕ) → Some (widen_job endorse auths into) ≡ job_of (map string_bytes words.now) → WidenMeans endorse auths into (F.file files.old) (F.file files.new) result }
+    ensures narrow { (key auths public into : List ℕ) → Some (narrow_job key auths public into) ≡ job_of (map string_bytes words.now) → NarrowMeans key auths public into (F.file files.old) (F.file files.new) result }
     // what an audit writes, a check of its key accepts
     ensures evidence { (segment : List ℕ) (image : Option (List ℕ)) (names : SignedData) → Some (audit_job segment image (Some names)) ≡ job_of (map string_bytes words.now) → result ≡ 1 → IsAcceptedLater names (F.file files.old) (F.file files.new) }
-    // no call on the disk or the spare
-    ensures disk { disk.new ≡ disk.old }
+    // no call on the disk without a store in the words, and none on the spare
+    ensures disk { store_of (map string_bytes words.now) ≡ None → disk.new ≡ disk.old }
     ensures spare { spare.new ≡ spare.old }
+    // only a job that makes a store or a roll, or binds a key in one, changes what is on the disk, or what a crash may leave or might have left
+    ensures same { writes_disk (job_of (map string_bytes words.now)) ≡ false → D.seen disk.new ≡ D.seen disk.old }
+    ensures crash { writes_disk (job_of (map string_bytes words.now)) ≡ false → (c : List ℕ) → D.may_leave disk.new c → D.may_leave disk.old c }
+    ensures moments { writes_disk (job_of (map string_bytes words.now)) ≡ false → (t : ℕ) (c : List ℕ) → t ≤ D.moment disk.old → D.left_since disk.new t c → D.left_since disk.old t c }
 {
-    act(alloc, words, files, out)
+    act(alloc, words, files, disk, out)
 }
 
 // Does the job.
-fn act<F: Files, S: Sink>(alloc: Global, words: &[String], files: &mut F, out: &mut S) -> u8
-    ensures ends { RunsAs (job_of (map string_bytes words.now)) (F.file files.old) (F.file files.new) (F.faults files.old) (F.faults files.new) (S.faults out.old) (S.faults out.new) (S.written out.old) (S.written out.new) result }
-    ensures means { MeansAs (job_of (map string_bytes words.now)) (F.file files.old) (F.file files.new) (S.written out.old) (S.written out.new) result }
-    ensures four { result ≡ 4 → Rises (F.faults files.old) (F.faults files.new) ⊎ Rises (S.faults out.old) (S.faults out.new) }
-    ensures not_four { result ≢ 4 → (F.faults files.new ≡ F.faults files.old) × (S.faults out.new ≡ S.faults out.old) }
+fn act<F: Files, D: Disk, S: Sink>(
+    alloc: Global,
+    words: &[String],
+    files: &mut F,
+    disk: &mut D,
+    out: &mut S,
+) -> u8
+    ensures ends { RunsAs (job_of (map string_bytes words.now)) (F.file files.old) (F.file files.new) (D.seen disk.old) (D.seen disk.new) (D.may_leave disk.new) (disk.new ≡ disk.old)
+        (record { files_before = F.faults files.old; files_now = F.faults files.new; disk_before = D.faults disk.old; disk_now = D.faults disk.new; out_before = S.faults out.old; out_now = S.faults out.new })
+        (S.written out.old) (S.written out.new) result }
+    ensures means { MeansAs (job_of (map string_bytes words.now)) (F.file files.old) (F.file files.new) (D.seen disk.old) (D.seen disk.new) (D.may_leave disk.new) (S.written out.old) (S.written out.new) result }
+    ensures four { result ≡ 4 → Rises (F.faults files.old) (F.faults files.new) ⊎ (Rises (D.faults disk.old) (D.faults disk.new) ⊎ Rises (S.faults out.old) (S.faults out.new)) }
+    ensures not_four { result ≢ 4 → (F.faults files.new ≡ F.faults files.old) × (D.faults disk.new ≡ D.faults disk.old) × (S.faults out.new ≡ S.faults out.old) }
     ensures files { (n : List ℕ) → IsNoneOf (written_by (job_of (map string_bytes words.now))) n → F.file files.new n ≡ F.file files.old n }
+    ensures quiet { uses_disk (job_of (map string_bytes words.now)) ≡ false → disk.new ≡ disk.old }
+    ensures same { writes_disk (job_of (map string_bytes words.now)) ≡ false → D.seen disk.new ≡ D.seen disk.old }
+    ensures crash { writes_disk (job_of (map string_bytes words.now)) ≡ false → (c : List ℕ) → D.may_leave disk.new c → D.may_leave disk.old c }
+    ensures moments { writes_disk (job_of (map string_bytes words.now)) ≡ false → (t : ℕ) (c : List ℕ) → t ≤ D.moment disk.old → D.left_since disk.new t c → D.left_since disk.old t c }
 {
     match job(words) {
         Err(BadWords) => refuse_words(out),
@@ -68,6 +102,15 @@ fn act<F: Files, S: Sink>(alloc: Global, words: &[String], files: &mut F, out: &
                 public,
             },
         ) => keygen(alloc, files, key_of(height, w, id, seed), key, public, out),
+        Ok(
+            Job::Format {
+                store: _,
+                key,
+                config,
+                image,
+            },
+        ) => format(alloc, files, key, config, image, disk, out),
+        Ok(Job::List { store: _ }) => list(alloc, disk, out),
         Ok(
             Job::Audit {
                 segment,
@@ -88,6 +131,30 @@ fn act<F: Files, S: Sink>(alloc: Global, words: &[String], files: &mut F, out: &
             view_at(alloc, files, segment, &asked, out)
         }
         Ok(Job::ViewChanges { segment, at }) => view_changes(alloc, files, segment, at, out),
+        Ok(Job::Roll { store: _, key }) => roll(alloc, files, disk, key, out),
+        Ok(
+            Job::Enroll {
+                store: _,
+                key,
+                public,
+                endorse,
+            },
+        ) => enroll(alloc, files, disk, key, public, endorse, out),
+        Ok(
+            Job::Widen {
+                endorse,
+                auths,
+                out: into,
+            },
+        ) => widen(alloc, files, endorse, auths, into, out),
+        Ok(
+            Job::Narrow {
+                key,
+                auths,
+                public,
+                out: into,
+            },
+        ) => narrow(alloc, files, key, auths, public, into, out),
         Ok(_) => refuse_unbuilt(out),
     }
 }

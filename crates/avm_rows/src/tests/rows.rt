@@ -86,7 +86,7 @@ fn words_and_names(rt: HostRuntime) {
             3,
         ),
         (&["replay"], "refused words\n", 3),
-        (&["list", "--store", "a"], "refused notbuilt\n", 2),
+        (&["sample", "--seed", "7"], "refused notbuilt\n", 2),
         (&["audit", "--segment", "a"], "refused file --segment\n", 3),
     ];
     for (texts, line, status) in rows {

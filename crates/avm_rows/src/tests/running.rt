@@ -1,6 +1,6 @@
-//! One run over files and a sink in memory.
+//! One run over files, a disk and a sink in memory.
 
-use avm_outside::{MemFiles, MemSink, NoDisk};
+use avm_outside::{Disk, MemFiles, MemSink, NoDisk};
 use avm_top::avm;
 use std::alloc::Global;
 
@@ -49,6 +49,21 @@ pub fn run_failing(
     let mut disk = NoDisk::new();
     let mut spare = NoDisk::new();
     let status = avm(alloc, &words, &mut files, &mut disk, &mut spare, &mut out);
+    Some(Ran { status, files, out })
+}
+
+/// A run over these files and a disk, without a fault of the files or the sink.
+pub fn run_on<D: Disk>(
+    alloc: Global,
+    texts: &[&str],
+    given: &[(&str, &[u8])],
+    disk: &mut D,
+) -> Option<Ran> {
+    let words = words(alloc, texts)?;
+    let mut files = files(alloc, given, 0)?;
+    let mut out = MemSink::new(alloc, Vec::new(alloc)).ok()?;
+    let mut spare = NoDisk::new();
+    let status = avm(alloc, &words, &mut files, disk, &mut spare, &mut out);
     Some(Ran { status, files, out })
 }
 

@@ -40,7 +40,7 @@ pub struct Case {
 }
 
 /// The hash of the last entry.
-fn top(segment: &[u8]) -> Option<Digest> {
+pub fn top(segment: &[u8]) -> Option<Digest> {
     let segment = read_segment(segment)?;
     Some(chain(&segment.before, Frames::new(segment.frames)))
 }

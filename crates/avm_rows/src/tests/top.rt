@@ -47,7 +47,7 @@ fn run(alloc: Global, texts: &[&str], file_fail: u64, print_fail: u64) -> Result
 
 #[test]
 fn words_that_are_no_job_or_not_built(rt: HostRuntime) -> Result<(), AllocError> {
-    let rows: [(&[&str], u64, &str, u8); 7] = [
+    let rows: [(&[&str], u64, &str, u8); 8] = [
         (&[], 0, "refused words\n", 3),
         (&["audit"], 0, "refused words\n", 3),
         (
@@ -63,8 +63,9 @@ fn words_that_are_no_job_or_not_built(rt: HostRuntime) -> Result<(), AllocError>
             3,
         ),
         (&["replay"], 0, "refused words\n", 3),
-        (&["list", "--store", "s"], 0, "refused notbuilt\n", 2),
-        (&["list", "--store", "s"], 1, "", 4),
+        (&["sample", "--seed", "7"], 0, "refused notbuilt\n", 2),
+        (&["sample", "--seed", "7"], 1, "", 4),
+        (&["list", "--store", "s"], 0, "fault disk\n", 4),
     ];
     for (texts, print_fail, line, status) in rows {
         let ran = run(rt.alloc(), texts, 0, print_fail)?;

@@ -1,19 +1,41 @@
 use Rattle.std.proofs.Common.{map, string_bytes}
 use Rattle.avm_script.specs.Job.{job_of}
-use Rattle.avm_top.proofs.Meant.{audit_means, check_means, view_means, changes_means, evidence_later}
+use Rattle.avm_top.proofs.Meant.{audit_means, check_means, format_means, list_means, view_means, changes_means, widen_means, narrow_means, roll_means, enroll_means, evidence_later}
+use Rattle.avm_top.proofs.Names.{no_store}
 use Rattle.avm_top.proofs.top.avm.Goals as goal
 
 pub returns-clause-audit : goal.returns-clause-audit
-returns-clause-audit g c = audit_means (job_of (map string_bytes c.args.words.now)) (g.F.Files.file c.args.files.now) (g.F.Files.file c.act.new.files) (g.S.Sink.written c.args.out.now) (g.S.Sink.written c.act.new.out) c.act.result c.act.ensures.means
+returns-clause-audit g c = audit_means (job_of (map string_bytes c.args.words.now)) (g.F.Files.file c.args.files.now) (g.F.Files.file c.act.new.files) (g.D.Disk.seen c.args.disk.now) (g.D.Disk.seen c.act.new.disk) (g.D.Disk.may_leave c.act.new.disk) (g.S.Sink.written c.args.out.now) (g.S.Sink.written c.act.new.out) c.act.result c.act.ensures.means
 
 pub returns-clause-check : goal.returns-clause-check
-returns-clause-check g c = check_means (job_of (map string_bytes c.args.words.now)) (g.F.Files.file c.args.files.now) (g.F.Files.file c.act.new.files) (g.S.Sink.written c.args.out.now) (g.S.Sink.written c.act.new.out) c.act.result c.act.ensures.means
+returns-clause-check g c = check_means (job_of (map string_bytes c.args.words.now)) (g.F.Files.file c.args.files.now) (g.F.Files.file c.act.new.files) (g.D.Disk.seen c.args.disk.now) (g.D.Disk.seen c.act.new.disk) (g.D.Disk.may_leave c.act.new.disk) (g.S.Sink.written c.args.out.now) (g.S.Sink.written c.act.new.out) c.act.result c.act.ensures.means
+
+pub returns-clause-format : goal.returns-clause-format
+returns-clause-format g c = format_means (job_of (map string_bytes c.args.words.now)) (g.F.Files.file c.args.files.now) (g.F.Files.file c.act.new.files) (g.D.Disk.seen c.args.disk.now) (g.D.Disk.seen c.act.new.disk) (g.D.Disk.may_leave c.act.new.disk) (g.S.Sink.written c.args.out.now) (g.S.Sink.written c.act.new.out) c.act.result c.act.ensures.means
+
+pub returns-clause-list : goal.returns-clause-list
+returns-clause-list g c = list_means (job_of (map string_bytes c.args.words.now)) (g.F.Files.file c.args.files.now) (g.F.Files.file c.act.new.files) (g.D.Disk.seen c.args.disk.now) (g.D.Disk.seen c.act.new.disk) (g.D.Disk.may_leave c.act.new.disk) (g.S.Sink.written c.args.out.now) (g.S.Sink.written c.act.new.out) c.act.result c.act.ensures.means
 
 pub returns-clause-view : goal.returns-clause-view
-returns-clause-view g c = view_means (job_of (map string_bytes c.args.words.now)) (g.F.Files.file c.args.files.now) (g.F.Files.file c.act.new.files) (g.S.Sink.written c.args.out.now) (g.S.Sink.written c.act.new.out) c.act.result c.act.ensures.means
+returns-clause-view g c = view_means (job_of (map string_bytes c.args.words.now)) (g.F.Files.file c.args.files.now) (g.F.Files.file c.act.new.files) (g.D.Disk.seen c.args.disk.now) (g.D.Disk.seen c.act.new.disk) (g.D.Disk.may_leave c.act.new.disk) (g.S.Sink.written c.args.out.now) (g.S.Sink.written c.act.new.out) c.act.result c.act.ensures.means
 
 pub returns-clause-changes : goal.returns-clause-changes
-returns-clause-changes g c = changes_means (job_of (map string_bytes c.args.words.now)) (g.F.Files.file c.args.files.now) (g.F.Files.file c.act.new.files) (g.S.Sink.written c.args.out.now) (g.S.Sink.written c.act.new.out) c.act.result c.act.ensures.means
+returns-clause-changes g c = changes_means (job_of (map string_bytes c.args.words.now)) (g.F.Files.file c.args.files.now) (g.F.Files.file c.act.new.files) (g.D.Disk.seen c.args.disk.now) (g.D.Disk.seen c.act.new.disk) (g.D.Disk.may_leave c.act.new.disk) (g.S.Sink.written c.args.out.now) (g.S.Sink.written c.act.new.out) c.act.result c.act.ensures.means
+
+pub returns-clause-widen : goal.returns-clause-widen
+returns-clause-widen g c = widen_means (job_of (map string_bytes c.args.words.now)) (g.F.Files.file c.args.files.now) (g.F.Files.file c.act.new.files) (g.D.Disk.seen c.args.disk.now) (g.D.Disk.seen c.act.new.disk) (g.D.Disk.may_leave c.act.new.disk) (g.S.Sink.written c.args.out.now) (g.S.Sink.written c.act.new.out) c.act.result c.act.ensures.means
+
+pub returns-clause-narrow : goal.returns-clause-narrow
+returns-clause-narrow g c = narrow_means (job_of (map string_bytes c.args.words.now)) (g.F.Files.file c.args.files.now) (g.F.Files.file c.act.new.files) (g.D.Disk.seen c.args.disk.now) (g.D.Disk.seen c.act.new.disk) (g.D.Disk.may_leave c.act.new.disk) (g.S.Sink.written c.args.out.now) (g.S.Sink.written c.act.new.out) c.act.result c.act.ensures.means
+
+pub returns-clause-roll : goal.returns-clause-roll
+returns-clause-roll g c = roll_means (job_of (map string_bytes c.args.words.now)) (g.F.Files.file c.args.files.now) (g.F.Files.file c.act.new.files) (g.D.Disk.seen c.args.disk.now) (g.D.Disk.seen c.act.new.disk) (g.D.Disk.may_leave c.act.new.disk) (g.S.Sink.written c.args.out.now) (g.S.Sink.written c.act.new.out) c.act.result c.act.ensures.means
+
+pub returns-clause-enroll : goal.returns-clause-enroll
+returns-clause-enroll g c = enroll_means (job_of (map string_bytes c.args.words.now)) (g.F.Files.file c.args.files.now) (g.F.Files.file c.act.new.files) (g.D.Disk.seen c.args.disk.now) (g.D.Disk.seen c.act.new.disk) (g.D.Disk.may_leave c.act.new.disk) (g.S.Sink.written c.args.out.now) (g.S.Sink.written c.act.new.out) c.act.result c.act.ensures.means
 
 pub returns-clause-evidence : goal.returns-clause-evidence
-returns-clause-evidence g c = evidence_later (map string_bytes c.args.words.now) (g.F.Files.file c.args.files.now) (g.F.Files.file c.act.new.files) (g.S.Sink.written c.args.out.now) (g.S.Sink.written c.act.new.out) c.act.result c.act.ensures.means
+returns-clause-evidence g c = evidence_later (map string_bytes c.args.words.now) (g.F.Files.file c.args.files.now) (g.F.Files.file c.act.new.files) (g.D.Disk.seen c.args.disk.now) (g.D.Disk.seen c.act.new.disk) (g.D.Disk.may_leave c.act.new.disk) (g.S.Sink.written c.args.out.now) (g.S.Sink.written c.act.new.out) c.act.result c.act.ensures.means
+
+pub returns-clause-disk : goal.returns-clause-disk
+returns-clause-disk g c = λ none. c.act.ensures.quiet (no_store (map string_bytes c.args.words.now) none)
