@@ -1,12 +1,13 @@
 -- What the status of a named job says.
 use Rattle.std.proofs.Common.{◌≡◌, ℕ, List, Option, Some, refl, sym, subst}
-use Rattle.avm_script.specs.Job.{JobData, SignedData, audit, check, enroll, format, list, narrow, roll, view_at, view_changes, widen, job_of}
+use Rattle.avm_script.specs.Job.{JobData, SignedData, audit, check, enroll, format, list, narrow, rebut, roll, view_at, view_changes, widen, job_of}
 use Rattle.audit_command.specs.Meaning.{AuditMeans, CheckMeans, IsAcceptedLater}
 use Rattle.command_parts.specs.FileMap.{FileMap}
 use Rattle.format_command.specs.Meaning.{FormatMeans}
 use Rattle.hss_command.specs.Narrow.{NarrowMeans}
 use Rattle.hss_command.specs.Widen.{WidenMeans}
 use Rattle.list_command.specs.Meaning.{ListMeans}
+use Rattle.rebut_command.specs.Meaning.{RebutMeans}
 use Rattle.roll_command.specs.Enroll.{EnrollMeans}
 use Rattle.roll_command.specs.Roll.{RollMeans}
 use Rattle.view_command.specs.Meaning.{ViewMeans}
@@ -28,6 +29,9 @@ format_means job old new was is images before after result means store key confi
 
 pub list_means : (job : Option JobData) (old new : FileMap) (was is : Option (List ℕ)) (images : List ℕ → Type 0) (before after : Option (List ℕ)) (result : ℕ) → MeansAs job old new was is images before after result → (store : List ℕ) → Some (list store) ≡ job → ListMeans was before after result
 list_means job old new was is images before after result means store is_it = means_of job (Some (list store)) old new was is images before after result is_it means
+
+pub rebut_means : (job : Option JobData) (old new : FileMap) (was is : Option (List ℕ)) (images : List ℕ → Type 0) (before after : Option (List ℕ)) (result : ℕ) → MeansAs job old new was is images before after result → (store evidence : List ℕ) → Some (rebut store evidence) ≡ job → RebutMeans (old evidence) was before after result
+rebut_means job old new was is images before after result means store evidence is_it = means_of job (Some (rebut store evidence)) old new was is images before after result is_it means
 
 pub view_means : (job : Option JobData) (old new : FileMap) (was is : Option (List ℕ)) (images : List ℕ → Type 0) (before after : Option (List ℕ)) (result : ℕ) → MeansAs job old new was is images before after result → (segment : List ℕ) (count from words : ℕ) → Some (view_at segment count from words) ≡ job → ViewMeans (ShowsState (state_asked count from words)) (old segment) before after result
 view_means job old new was is images before after result means segment count from words is_it = means_of job (Some (view_at segment count from words)) old new was is images before after result is_it means

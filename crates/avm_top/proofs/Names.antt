@@ -172,7 +172,7 @@ unused words (record_job store key script packets console auths) fits none = ref
 unused words (export store from to segment) fits none = refl
 unused words (audit segment image signed) fits none = refl
 unused words (check key evidence) fits none = refl
-unused words (rebut store evidence) fits none = refl
+unused words (rebut store evidence) fits none = let no : ◌≡◌ {A = Option (List ℕ)} (Some store) None = sym fits ∙ none in absurd cc
 unused words (list store) fits none = let no : ◌≡◌ {A = Option (List ℕ)} (Some store) None = sym fits ∙ none in absurd cc
 unused words (sample seed) fits none = refl
 unused words (retain store into at) fits none = refl

@@ -1,6 +1,6 @@
 -- How a job runs and what its status says, by the definitions of its command.
 use Rattle.std.specs.Prelude.{◌≡◌, ◌≢◌, ℕ, Bool, true, false, List, [], ◌∷◌, Option, None, Some, codes}
-use Rattle.avm_script.specs.Job.{JobData, SignedData, keygen, format, audit, check, list, roll, enroll, widen, narrow, view_at, view_changes}
+use Rattle.avm_script.specs.Job.{JobData, SignedData, keygen, format, audit, check, rebut, list, roll, enroll, widen, narrow, view_at, view_changes}
 use Rattle.audit_command.specs.Audit.{audit_writes}
 use Rattle.audit_command.specs.Meaning.{AuditMeans, CheckMeans, IsAcceptedLater}
 use Rattle.audit_command.specs.Outcomes.{AuditRuns, CheckRuns}
@@ -14,6 +14,8 @@ use Rattle.hss_command.specs.Widen.{WidenEnds, WidenMeans}
 use Rattle.keygen_command.specs.Keygen.{KeygenRuns, key_of_words}
 use Rattle.list_command.specs.Meaning.{ListMeans}
 use Rattle.list_command.specs.Outcomes.{ListEnds}
+use Rattle.rebut_command.specs.Meaning.{RebutMeans}
+use Rattle.rebut_command.specs.Outcomes.{RebutEnds, counted}
 use Rattle.roll_command.specs.Enroll.{EnrollEnds, EnrollMeans}
 use Rattle.roll_command.specs.Enroll as enrolling
 use Rattle.roll_command.specs.Roll.{RollEnds, RollMeans}
@@ -35,6 +37,7 @@ written_by job = []
 abbrev pub uses_disk : Option JobData → Bool
 uses_disk (Some (format store key config image)) = true
 uses_disk (Some (list store)) = true
+uses_disk (Some (rebut store evidence)) = true
 uses_disk (Some (roll store key)) = true
 uses_disk (Some (enroll store key public endorse)) = true
 uses_disk job = false
@@ -70,6 +73,8 @@ RunsAs (Some (format store key config image)) old new was is images quiet n befo
     FormatEnds (format_names key config image) old was is images quiet n before after result
 RunsAs (Some (list store)) old new was is images quiet n before after result =
     (n.files_now ≡ n.files_before) × ListEnds was n.disk_before n.disk_now n.out_before n.out_now before after result
+RunsAs (Some (rebut store evidence)) old new was is images quiet n before after result =
+    RebutEnds (old evidence) was (counted n.files_before n.files_now) (counted n.disk_before n.disk_now) (counted n.out_before n.out_now) before after result
 RunsAs (Some (audit segment image signed)) old new was is images quiet n before after result =
     AuditRuns segment image signed old new n.files_before n.files_now n.out_before n.out_now before after result
 RunsAs (Some (check key evidence)) old new was is images quiet n before after result =
@@ -97,6 +102,7 @@ MeansAs (Some (view_at segment count from words)) old new was is images before a
 MeansAs (Some (view_changes segment at)) old new was is images before after result = ViewMeans (ShowsChanges at) (old segment) before after result
 MeansAs (Some (format store key config image)) old new was is images before after result = FormatMeans (format_names key config image) old was is images result
 MeansAs (Some (list store)) old new was is images before after result = ListMeans was before after result
+MeansAs (Some (rebut store evidence)) old new was is images before after result = RebutMeans (old evidence) was before after result
 MeansAs (Some (roll store key)) old new was is images before after result = RollMeans (old key) was is images result
 MeansAs (Some (enroll store key public endorse)) old new was is images before after result = EnrollMeans (enroll_names key public endorse) old new was is images result
 MeansAs (Some (widen endorse auths into)) old new was is images before after result = WidenMeans endorse auths into old new result

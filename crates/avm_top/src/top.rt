@@ -1,6 +1,6 @@
 // The top call: what the words ask for is done by the command's crate.
 ghost use Rattle.std.specs.Prelude.{◌≡◌, ◌≢◌, ◌⊎◌, ◌≤◌, ℕ, List, Option, None, Some, false, map, string_bytes};
-ghost use Rattle.avm_script.specs.Job.{SignedData, audit as audit_job, check as check_job, enroll as enroll_job, format as format_job, list as list_job, narrow as narrow_job, roll as roll_job, view_at as view_at_job, view_changes as view_changes_job, widen as widen_job, job_of, store_of};
+ghost use Rattle.avm_script.specs.Job.{SignedData, audit as audit_job, check as check_job, enroll as enroll_job, format as format_job, list as list_job, narrow as narrow_job, rebut as rebut_job, roll as roll_job, view_at as view_at_job, view_changes as view_changes_job, widen as widen_job, job_of, store_of};
 ghost use Rattle.avm_outside.specs.Outside.{Rises};
 ghost use Rattle.audit_command.specs.Audit.{IsNoneOf};
 ghost use Rattle.audit_command.specs.Meaning.{AuditMeans, CheckMeans, IsAcceptedLater};
@@ -8,6 +8,7 @@ ghost use Rattle.format_command.specs.Meaning.{FormatMeans};
 ghost use Rattle.hss_command.specs.Narrow.{NarrowMeans};
 ghost use Rattle.hss_command.specs.Widen.{WidenMeans};
 ghost use Rattle.list_command.specs.Meaning.{ListMeans};
+ghost use Rattle.rebut_command.specs.Meaning.{RebutMeans};
 ghost use Rattle.roll_command.specs.Enroll.{EnrollMeans};
 ghost use Rattle.roll_command.specs.Roll.{RollMeans};
 ghost use Rattle.view_command.specs.Meaning.{ViewMeans};
@@ -22,6 +23,7 @@ use format_command::format;
 use hss_command::{narrow, widen};
 use keygen_command::{key_of, keygen};
 use list_command::list;
+use rebut_command::rebut;
 use roll_command::{enroll, roll};
 use std::alloc::Global;
 use view_command::{StateAsked, view_at, view_changes};
@@ -51,6 +53,7 @@ pub fn avm<F: Files, D: Disk, E: Disk, S: Sink>(
     ensures check { (key evidence : List ℕ) → Some (check_job key evidence) ≡ job_of (map string_bytes words.now) → CheckMeans key evidence (F.file files.old) result }
     ensures format { (store key config image : List ℕ) → Some (format_job store key config image) ≡ job_of (map string_bytes words.now) → FormatMeans (format_names key config image) (F.file files.old) (D.seen disk.old) (D.seen disk.new) (D.may_leave disk.new) result }
     ensures list { (store : List ℕ) → Some (list_job store) ≡ job_of (map string_bytes words.now) → ListMeans (D.seen disk.old) (S.written out.old) (S.written out.new) result }
+    ensures rebut { (store evidence : List ℕ) → Some (rebut_job store evidence) ≡ job_of (map string_bytes words.now) → RebutMeans (F.file files.old evidence) (D.seen disk.old) (S.written out.old) (S.written out.new) result }
     ensures view { (segment : List ℕ) (count from shown : ℕ) → Some (view_at_job segment count from shown) ≡ job_of (map string_bytes words.now) → ViewMeans (ShowsState (state_asked count from shown)) (F.file files.old segment) (S.written out.old) (S.written out.new) result }
     ensures changes { (segment : List ℕ) (at : ℕ) → Some (view_changes_job segment at) ≡ job_of (map string_bytes words.now) → ViewMeans (ShowsChanges at) (F.file files.old segment) (S.written out.old) (S.written out.new) result }
     ensures roll { (store key : List ℕ) → Some (roll_job store key) ≡ job_of (map string_bytes words.now) → RollMeans (F.file files.old key) (D.seen disk.old) (D.seen disk.new) (D.may_leave disk.new) result }
@@ -111,6 +114,7 @@ fn act<F: Files, D: Disk, S: Sink>(
             },
         ) => format(alloc, files, key, config, image, disk, out),
         Ok(Job::List { store: _ }) => list(alloc, disk, out),
+        Ok(Job::Rebut { store: _, evidence }) => rebut(alloc, disk, files, evidence, out),
         Ok(
             Job::Audit {
                 segment,

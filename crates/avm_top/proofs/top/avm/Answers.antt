@@ -1,6 +1,6 @@
 use Rattle.std.proofs.Common.{map, string_bytes}
 use Rattle.avm_script.specs.Job.{job_of}
-use Rattle.avm_top.proofs.Meant.{audit_means, check_means, format_means, list_means, view_means, changes_means, widen_means, narrow_means, roll_means, enroll_means, evidence_later}
+use Rattle.avm_top.proofs.Meant.{audit_means, check_means, format_means, list_means, rebut_means, view_means, changes_means, widen_means, narrow_means, roll_means, enroll_means, evidence_later}
 use Rattle.avm_top.proofs.Names.{no_store}
 use Rattle.avm_top.proofs.top.avm.Goals as goal
 
@@ -15,6 +15,9 @@ returns-clause-format g c = format_means (job_of (map string_bytes c.args.words.
 
 pub returns-clause-list : goal.returns-clause-list
 returns-clause-list g c = list_means (job_of (map string_bytes c.args.words.now)) (g.F.Files.file c.args.files.now) (g.F.Files.file c.act.new.files) (g.D.Disk.seen c.args.disk.now) (g.D.Disk.seen c.act.new.disk) (g.D.Disk.may_leave c.act.new.disk) (g.S.Sink.written c.args.out.now) (g.S.Sink.written c.act.new.out) c.act.result c.act.ensures.means
+
+pub returns-clause-rebut : goal.returns-clause-rebut
+returns-clause-rebut g c = rebut_means (job_of (map string_bytes c.args.words.now)) (g.F.Files.file c.args.files.now) (g.F.Files.file c.act.new.files) (g.D.Disk.seen c.args.disk.now) (g.D.Disk.seen c.act.new.disk) (g.D.Disk.may_leave c.act.new.disk) (g.S.Sink.written c.args.out.now) (g.S.Sink.written c.act.new.out) c.act.result c.act.ensures.means
 
 pub returns-clause-view : goal.returns-clause-view
 returns-clause-view g c = view_means (job_of (map string_bytes c.args.words.now)) (g.F.Files.file c.args.files.now) (g.F.Files.file c.act.new.files) (g.D.Disk.seen c.args.disk.now) (g.D.Disk.seen c.act.new.disk) (g.D.Disk.may_leave c.act.new.disk) (g.S.Sink.written c.args.out.now) (g.S.Sink.written c.act.new.out) c.act.result c.act.ensures.means
