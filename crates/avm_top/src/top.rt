@@ -5,6 +5,7 @@ ghost use Rattle.avm_outside.specs.Outside.{Rises};
 ghost use Rattle.audit_command.specs.Audit.{IsNoneOf};
 ghost use Rattle.audit_command.specs.Meaning.{AuditMeans, CheckMeans, IsAcceptedLater};
 ghost use Rattle.format_command.specs.Meaning.{FormatMeans};
+ghost use Rattle.headline.specs.Headline.{HeadlineMeans};
 ghost use Rattle.hss_command.specs.Narrow.{NarrowMeans};
 ghost use Rattle.hss_command.specs.Widen.{WidenMeans};
 ghost use Rattle.list_command.specs.Meaning.{ListMeans};
@@ -50,6 +51,8 @@ pub fn avm<F: Files, D: Disk, E: Disk, S: Sink>(
     ensures files { (n : List ℕ) → IsNoneOf (written_by (job_of (map string_bytes words.now))) n → F.file files.new n ≡ F.file files.old n }
     // what 0 and 1 mean
     ensures audit { (segment : List ℕ) (image : Option (List ℕ)) (signed : Option SignedData) → Some (audit_job segment image signed) ≡ job_of (map string_bytes words.now) → AuditMeans segment image signed (F.file files.old) (F.file files.new) (S.written out.old) (S.written out.new) result }
+    // the program's claim: what an audit's 0 and 1 mean, with `check` by anybody and `rebut` by the owner of a store
+    ensures headline { (segment : List ℕ) (signed : Option SignedData) → Some (audit_job segment None signed) ≡ job_of (map string_bytes words.now) → HeadlineMeans segment signed (F.file files.old) (F.file files.new) result }
     ensures check { (key evidence : List ℕ) → Some (check_job key evidence) ≡ job_of (map string_bytes words.now) → CheckMeans key evidence (F.file files.old) result }
     ensures format { (store key config image : List ℕ) → Some (format_job store key config image) ≡ job_of (map string_bytes words.now) → FormatMeans (format_names key config image) (F.file files.old) (D.seen disk.old) (D.seen disk.new) (D.may_leave disk.new) result }
     ensures list { (store : List ℕ) → Some (list_job store) ≡ job_of (map string_bytes words.now) → ListMeans (D.seen disk.old) (S.written out.old) (S.written out.new) result }

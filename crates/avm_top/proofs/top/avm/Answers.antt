@@ -1,11 +1,15 @@
-use Rattle.std.proofs.Common.{map, string_bytes}
+use Rattle.std.proofs.Common.{None, map, string_bytes}
 use Rattle.avm_script.specs.Job.{job_of}
+use Rattle.headline.proofs.Joined.{joined}
 use Rattle.avm_top.proofs.Meant.{audit_means, check_means, format_means, list_means, rebut_means, view_means, changes_means, widen_means, narrow_means, roll_means, enroll_means, evidence_later}
 use Rattle.avm_top.proofs.Names.{no_store}
 use Rattle.avm_top.proofs.top.avm.Goals as goal
 
 pub returns-clause-audit : goal.returns-clause-audit
 returns-clause-audit g c = audit_means (job_of (map string_bytes c.args.words.now)) (g.F.Files.file c.args.files.now) (g.F.Files.file c.act.new.files) (g.D.Disk.seen c.args.disk.now) (g.D.Disk.seen c.act.new.disk) (g.D.Disk.may_leave c.act.new.disk) (g.S.Sink.written c.args.out.now) (g.S.Sink.written c.act.new.out) c.act.result c.act.ensures.means
+
+pub returns-clause-headline : goal.returns-clause-headline
+returns-clause-headline g c = λ segment signed is_it. joined segment signed (g.F.Files.file c.args.files.now) (g.F.Files.file c.act.new.files) (g.S.Sink.written c.args.out.now) (g.S.Sink.written c.act.new.out) c.act.result (audit_means (job_of (map string_bytes c.args.words.now)) (g.F.Files.file c.args.files.now) (g.F.Files.file c.act.new.files) (g.D.Disk.seen c.args.disk.now) (g.D.Disk.seen c.act.new.disk) (g.D.Disk.may_leave c.act.new.disk) (g.S.Sink.written c.args.out.now) (g.S.Sink.written c.act.new.out) c.act.result c.act.ensures.means segment None signed is_it)
 
 pub returns-clause-check : goal.returns-clause-check
 returns-clause-check g c = check_means (job_of (map string_bytes c.args.words.now)) (g.F.Files.file c.args.files.now) (g.F.Files.file c.act.new.files) (g.D.Disk.seen c.args.disk.now) (g.D.Disk.seen c.act.new.disk) (g.D.Disk.may_leave c.act.new.disk) (g.S.Sink.written c.args.out.now) (g.S.Sink.written c.act.new.out) c.act.result c.act.ensures.means
