@@ -20,9 +20,22 @@ fn left<'a>(ran: &'a Ran, name: &str) -> &'a [u8] {
 fn endorsement(alloc: Global, public: &[u8]) -> Option<Vec<u8>> {
     let mut disk = MemDisk::new(alloc, Vec::new(alloc)).ok()?;
     let files: [(&str, &[u8]); 2] = [("t", TOP), ("p", public)];
-    let roll = run_on(alloc, &["roll", "--store", "r", "--key", "t"], &files, &mut disk)?;
+    let roll = run_on(
+        alloc,
+        &["roll", "--store", "r", "--key", "t"],
+        &files,
+        &mut disk,
+    )?;
     let words = [
-        "enroll", "--store", "r", "--key", "t", "--public", "p", "--endorse", "e",
+        "enroll",
+        "--store",
+        "r",
+        "--key",
+        "t",
+        "--public",
+        "p",
+        "--endorse",
+        "e",
     ];
     let enroll = run_on(alloc, &words, &files, &mut disk)?;
     if !roll.ended("roll made\n", 0) || !enroll.ended("enrolled 0\n", 0) {
@@ -35,8 +48,19 @@ fn endorsement(alloc: Global, public: &[u8]) -> Option<Vec<u8>> {
 fn top_public(alloc: Global) -> Option<Vec<u8>> {
     let seed = "0909090909090909090909090909090909090909090909090909090909090909";
     let words = [
-        "keygen", "--height", "5", "--w", "8", "--id", "07070707070707070707070707070707", "--seed",
-        seed, "--key", "t", "--public", "p",
+        "keygen",
+        "--height",
+        "5",
+        "--w",
+        "8",
+        "--id",
+        "07070707070707070707070707070707",
+        "--seed",
+        seed,
+        "--key",
+        "t",
+        "--public",
+        "p",
     ];
     let ran = run(alloc, &words, &[])?;
     if left(&ran, "t") != TOP {
@@ -66,7 +90,15 @@ fn a_seal_is_widened_and_narrowed(rt: HostRuntime) {
     let back = run(alloc, &narrow, &given).expect(&rt, "memory");
     assert!(rt; back.ended("narrowed 1\n", 0));
     let audit = [
-        "audit", "--segment", "s", "--key", "k", "--auths", "a", "--evidence", "e",
+        "audit",
+        "--segment",
+        "s",
+        "--key",
+        "k",
+        "--auths",
+        "a",
+        "--evidence",
+        "e",
     ];
     let given: [(&str, &[u8]); 3] = [
         ("s", &segment),
