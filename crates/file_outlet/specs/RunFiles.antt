@@ -1,5 +1,5 @@
 -- The three files that a run appends to (docs/FORMATS.md, "Files of a run").
-use Rattle.std.specs.Prelude.{◌≡◌, ◌≢◌, ◌⊎◌, ℕ, List, ◌++◌, length, take, Option, option_map, if◌then◌else◌}
+use Rattle.std.specs.Prelude.{◌≡◌, ◌≢◌, ◌⊎◌, ℕ, List, ◌++◌, length, take, Option, None, option_map, if◌then◌else◌}
 use Rattle.std.specs.Str.{bytes_eq}
 use Rattle.std.specs.Int.{w32}
 use Rattle.avm_num.specs.Lists.{be}
@@ -46,3 +46,17 @@ pub record Stays (old new : Held) : Type 0 where
   pub console : new.console ≡ old.console
   pub auths : new.auths ≡ old.auths
   pub others : (n : List ℕ) → n ≢ old.packets → n ≢ old.console → n ≢ old.auths → new.files n ≡ old.files n
+
+-- what no piece changes, told or not: the names, and each other file; of the three nothing is said
+pub record Others : Type 0 where
+  pub packets : List ℕ
+  pub console : List ℕ
+  pub auths : List ℕ
+  pub files : FileMap
+
+-- the files but one
+abbrev pub without : List ℕ → FileMap → FileMap
+without name files n = if bytes_eq n name then None else files n
+
+abbrev pub others_of : Held → Others
+others_of h = record { packets = h.packets; console = h.console; auths = h.auths; files = without h.packets (without h.console (without h.auths h.files)) }

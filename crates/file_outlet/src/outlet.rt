@@ -2,7 +2,7 @@
 ghost use base.Fml.{GName};
 ghost use Rattle.std.specs.Prelude.{◌≡◌, ◌≤◌, ◌+◌, ◌++◌, take, length};
 ghost use Rattle.avm_outside.specs.Outlet.{packet};
-ghost use Rattle.file_outlet.specs.RunFiles.{Held, adding_piece, TornPiece, spelled};
+ghost use Rattle.file_outlet.specs.RunFiles.{Held, Others, adding_piece, TornPiece, others_of, spelled};
 
 use avm_outside::{Failed, Files, Outlet};
 
@@ -66,9 +66,9 @@ impl<'a, F: Files> FileOutlet<'a, F> {
 impl<'a, F: Files> Outlet for FileOutlet<'a, F> {
     ghost faults = { λ o. F.faults o.files.now };
 
-    ghost Loan = { GName };
+    ghost Loan = { GName × Others };
 
-    ghost loan = { λ o. o.files.ghost_name };
+    ghost loan = { λ o. (o.files.ghost_name, others_of (record { packets = o.packets.now; console = o.console.now; auths = o.auths.now; files = F.file o.files.now })) };
 
     ghost Held = { Held };
 

@@ -10,5 +10,8 @@ mod first;
 mod inputs;
 mod making;
 
+pub use boot::{Boot, boot_machine};
 pub use command::format;
 pub use ends::{End, FileOption};
+pub use first::make_store;
+pub use inputs::Start;

@@ -1,11 +1,11 @@
 //! The outputs of a step as entries of the batch, with the keep behind a snapshot.
 
-ghost use Rattle.std.specs.Prelude.{◌≡◌, ℕ, ◌+◌, ◌*◌, ◌≤◌, ◌<◌, ◌^◌, List, None, length, true};
+ghost use Rattle.std.specs.Prelude.{◌≡◌, ℕ, ◌+◌, ◌*◌, ◌≤◌, ◌<◌, ◌^◌, List, None, length, false, true};
 ghost use Rattle.avm_model.specs.Pages.{sha_hashes};
 ghost use Rattle.avm_model.specs.Parts.{IsOrdinal};
 ghost use Rattle.avm_model.specs.Reference.{made_of};
 ghost use Rattle.guest_machine.specs.Outs.{IsOuts, snap_list};
-ghost use Rattle.honest_model.specs.KeepPages.{KeepsMarked};
+ghost use Rattle.honest_model.specs.KeepPages.{KeepsMarked, WritesHead};
 ghost use Rattle.journal_model.specs.Journal.{pages_ascend};
 ghost use Rattle.page_tree.specs.Nodes.{IsStale};
 ghost use Rattle.record_batch.specs.Batch.{batch_size, HasPlace};
@@ -41,6 +41,8 @@ fn put_due(
         × (pages_ascend 0 (length machine.old.dirty) (pages_in pages) ≡ true)
         × (batch.new ≡ with_made batch.old machine.old.state pages (map (made_of machine.old.state) (snap_list due))) }
     ensures size { batch_size batch.new ≤ batch_size batch.old + 16805500 }
+    ensures head { due ≡ true → WritesHead machine.old.state }
+    ensures quiet { due ≡ false → machine.new.dirty ≡ machine.old.dirty }
     ensures state { machine.new.state ≡ machine.old.state }
     ensures marks { length machine.new.dirty ≡ length machine.old.dirty }
     ensures pages { length drafts.new.marks.items ≡ length drafts.old.marks.items }
@@ -117,6 +119,8 @@ pub fn put_outs(
         × (batch.new ≡ with_made batch.old machine.old.state pages (outs_made machine.old.state outs.now)) }
     ensures fits { FitAll (outs_made machine.old.state outs.now) }
     ensures size { batch_size batch.new ≤ batch_size batch.old + 16807868 }
+    ensures head { outs.now.snap ≡ true → WritesHead machine.old.state }
+    ensures quiet { outs.now.snap ≡ false → machine.new.dirty ≡ machine.old.dirty }
     ensures state { machine.new.state ≡ machine.old.state }
     ensures marks { length machine.new.dirty ≡ length machine.old.dirty }
     ensures pages { length drafts.new.marks.items ≡ length machine.new.dirty }

@@ -26,7 +26,7 @@ use Rattle.record_kept.specs.Tickets.{AreKept, AreKeptOf}
 use Rattle.record_kept.specs.declared.kept.KeptRow.{KeptRow}
 use Rattle.record_kept.proofs.Keeping.{frames-append, kept_more, quiet_frames}
 use Rattle.record_machine.specs.Taking.{Takes}
-use Rattle.record_model.specs.Recording.{TakeIn, is_none, taken_in}
+use Rattle.record_model.specs.Recording.{TakeIn, frame_of, is_none, next_of, taken_in}
 use Rattle.record_model.specs.Released.{Sender, packet_of, pieces_from, read, sender_of, signed_entries, signed_frames}
 use Rattle.record_packets.specs.Coming.{Came}
 use Rattle.record_parts.specs.Ends.{EndsAs, Faults, SavedAs}
@@ -37,6 +37,8 @@ use Rattle.record_parts.proofs.Effects.{IsNext, input_closing, recv_entry, recv_
 use Rattle.record_parts.proofs.Ends.{Closing, ends_cut, ends_refused, ends_saved, made_same, rec}
 use Rattle.record_store.specs.Open.{IsOpen}
 use Rattle.record_turn.proofs.Batches.{input_open, input_size, quiet_signs, small_size}
+use Rattle.avm_model.specs.Memory.{RamState}
+use Rattle.record_turn.proofs.Keeps.{beside, entry_tells}
 use Rattle.record_turn.specs.Leaves.{Acted}
 
 -- ---- the batch that is saved
@@ -117,7 +119,7 @@ module _ (k : Kept) (b c : BatchData) (s u : State) (bytes : List ℕ) (quiet : 
         → AreKeptOf rows j → AreKeptOf after (with_record j c.parts)
     recv_keeps rows after peer t e from more h = kept_more after j c.parts entry_is frames_are (more (signed_entries j) entry_is s.count bytes reads from (sym (ticket_is t e)) h)
 
-    module _ {H : Type 0} (adding : Piece → H → H) (tearing : Piece → H → H → Type 0) (key : KeyData) where
+    module _ {H : Type 0} (adding : Piece → H → H) (tearing : Piece → H → H → Type 0) (key : KeyData) (ram : RamState) where
       abbrev who : Sender
       who = record { key = key; own = u.devices.own }
 
@@ -134,23 +136,24 @@ module _ (k : Kept) (b c : BatchData) (s u : State) (bytes : List ℕ) (quiet : 
           ∙ ap (λ (x : SignedData). packet peer (ack_bytes (packet_by who x (content_bytes (recv s.count bytes)))) ∷ []) (sym (ticket_is t e))
 
       acted : (rows after : List KeptRow) (rest : List Part) (f : Faults) (old new : H) (result : Result Turn Stop) (next : JournalData) → EndsAs adding tearing who (taken_in (rec j b.parts s) (OfferData bytes)) (rec next rest u) f old new result → IfOk result (λ turn. turn ≡ Took) → (AreKeptOf rows j → AreKeptOf after next)
-          → Acted adding tearing who 0 (TakeIn (Some (OfferData bytes))) (rec j b.parts s) rows after rest u f old new result next c.parts
+          → Acted adding tearing who 0 (TakeIn (Some (OfferData bytes))) (rec j b.parts s) (beside rows ram) (beside after ram) rest u f old new result next c.parts
       acted rows after rest f old new result next h answer kept = record {
         acts = record { at = s; moved_to = refl; pages = []; effect = taken_in (rec j b.parts s) (OfferData bytes); effect_is = rw takes.none refl; ends = h; answer = answer };
         in_flight = parts_are ∙ ap (λ (n : ℕ). b.parts ++ numbered n (recv s.count bytes) ∷ []) is_next;
         tickets = kept;
+        keeps = (λ _. fits, λ k. entry_tells j b.parts (frame_of (next_of (rec j b.parts s)) (recv s.count bytes)) ram k);
       }
 
-      pub recv_refused : (T : Type 0) (rows : List KeptRow) (rest : List Part) (f : Faults) (held : H) (stop : Stop) → SavedAs {T = T} j c.parts j rest f (Err stop) → Acted adding tearing who 0 (TakeIn (Some (OfferData bytes))) (rec j b.parts s) rows rows rest u f held held (Err stop) j c.parts
+      pub recv_refused : (T : Type 0) (rows : List KeptRow) (rest : List Part) (f : Faults) (held : H) (stop : Stop) → SavedAs {T = T} j c.parts j rest f (Err stop) → Acted adding tearing who 0 (TakeIn (Some (OfferData bytes))) (rec j b.parts s) (beside rows ram) (beside rows ram) rest u f held held (Err stop) j c.parts
       recv_refused T rows rest f held stop saved = acted rows rows rest f held held (Err stop) j (ends_refused T Turn adding tearing who (taken_in (rec j b.parts s) (OfferData bytes)) j j c.parts rest u f held stop closing saved) tt (λ g. g)
 
       pub recv_done : {T : Type 0} (x : T) (rows after : List KeptRow) (rest : List Part) (f : Faults) (old new : H) (peer : ℕ) (t : SignedData) → SavedAs {T = T} j c.parts (with_record j c.parts) rest f (Ok x) → Some t ≡ first_of (signed_from k.standing c.parts) → sender_of (data_at bytes) ≡ peer
-          → new ≡ adding (packet peer (ack_bytes (packet_by who t (content_bytes (recv s.count bytes))))) old → (AreKeptOf rows j → AreKeptOf after (with_record j c.parts)) → Acted adding tearing who 0 (TakeIn (Some (OfferData bytes))) (rec j b.parts s) rows after rest u f old new (Ok Took) (with_record j c.parts) c.parts
+          → new ≡ adding (packet peer (ack_bytes (packet_by who t (content_bytes (recv s.count bytes))))) old → (AreKeptOf rows j → AreKeptOf after (with_record j c.parts)) → Acted adding tearing who 0 (TakeIn (Some (OfferData bytes))) (rec j b.parts s) (beside rows ram) (beside after ram) rest u f old new (Ok Took) (with_record j c.parts) c.parts
       recv_done x rows after rest f old new peer t saved e from told kept =
           acted rows after rest f old new (Ok Took) (with_record j c.parts) (ends_saved adding tearing who (taken_in (rec j b.parts s) (OfferData bytes)) j (with_record j c.parts) c.parts rest u f old new _ x Took closing saved (releases peer t e from) told) refl kept
 
       pub recv_cut : {T : Type 0} (x : T) (rows after : List KeptRow) (rest : List Part) (f : Faults) (old new : H) (peer : ℕ) (t : SignedData) → SavedAs {T = T} j c.parts (with_record j c.parts) rest f (Ok x) → Some t ≡ first_of (signed_from k.standing c.parts) → sender_of (data_at bytes) ≡ peer
-          → tearing (packet peer (ack_bytes (packet_by who t (content_bytes (recv s.count bytes))))) old new → Rises f.outlet_before f.outlet_after → (AreKeptOf rows j → AreKeptOf after (with_record j c.parts)) → Acted adding tearing who 0 (TakeIn (Some (OfferData bytes))) (rec j b.parts s) rows after rest u f old new (Err OutletFault) (with_record j c.parts) c.parts
+          → tearing (packet peer (ack_bytes (packet_by who t (content_bytes (recv s.count bytes))))) old new → Rises f.outlet_before f.outlet_after → (AreKeptOf rows j → AreKeptOf after (with_record j c.parts)) → Acted adding tearing who 0 (TakeIn (Some (OfferData bytes))) (rec j b.parts s) (beside rows ram) (beside after ram) rest u f old new (Err OutletFault) (with_record j c.parts) c.parts
       recv_cut x rows after rest f old new peer t saved e from cut rises kept =
           acted rows after rest f old new (Err OutletFault) (with_record j c.parts)
           (ends_cut Turn adding tearing who (taken_in (rec j b.parts s) (OfferData bytes)) j (with_record j c.parts) c.parts rest u f old new _ x closing saved (releases peer t e from) (record { before = []; cut = packet peer (ack_bytes (packet_by who t (content_bytes (recv s.count bytes)))); behind = []; split = refl; new_is = cut }) rises) tt kept

@@ -32,7 +32,6 @@ use Rattle.log_entry.proofs.Lengths.{data_limit}
 use Rattle.record_batch.specs.Batch.{BatchData}
 use Rattle.record_kept.specs.Again.{IsTicketOf}
 use Rattle.record_kept.proofs.Resends.{found, last_is}
-use Rattle.record_kept.specs.declared.kept.KeptRow.{KeptRow}
 use Rattle.record_model.specs.Recording.{Act, Effect, Recording, SendAgain, TakeIn, dropped_for, sent_again}
 use Rattle.record_model.specs.Released.{Sender, again, again_to, content_pieces, is_recv_from, is_send_to, last_recv, outstanding, packet_of, read, repeated_from, resend_refusal, sender_of, signed_entries}
 use Rattle.record_model.specs.Turn.{answer_for}
@@ -45,6 +44,7 @@ use Rattle.record_parts.proofs.Ends.{Opening, ends_open, ends_open_cut, rec}
 use Rattle.record_press.proofs.Making.{recv_few, send_few}
 use Rattle.record_packets.specs.Again.{AgainAs, packet_as}
 use Rattle.record_packets.specs.declared.again.Kind.{Kind}
+use Rattle.record_turn.specs.Keeping.{Aside}
 use Rattle.record_turn.specs.Leaves.{Acted, Leaves}
 
 -- ---- reading
@@ -137,7 +137,7 @@ few_recv peer e (Some (halt count cause value)) is h bytes = absurd cc
 
 -- ---- acts that release again
 
-module _ {H : Type 0} (adding : Piece → H → H) (tearing : Piece → H → H → Type 0) (who : Sender) (rows : List KeptRow) (j : JournalData) (b : List Part) (s : State) (f : Faults) (old new : H) where
+module _ {H : Type 0} (adding : Piece → H → H) (tearing : Piece → H → H → Type 0) (who : Sender) (aside : Aside) (j : JournalData) (b : List Part) (s : State) (f : Faults) (old new : H) where
   by_again : {T : Type 0} (e : Effect) (ps : List Piece) (x : T) → Opening e (rec j b s) ps → AgainAs adding tearing ps f old new (Ok x) → (turn : Turn) → EndsAs adding tearing who e (rec j b s) f old new (Ok turn)
   by_again e ps x o h turn = ends_open adding tearing who e (rec j b s) f old new ps turn o h
 
@@ -149,27 +149,27 @@ module _ {H : Type 0} (adding : Piece → H → H) (tearing : Piece → H → H 
   by_stop T e ps FeedFault o h = absurd h
 
   again_acted : (peer : ℕ) (result : Result Turn Stop) → EndsAs adding tearing who (sent_again who (rec j b s) peer) (rec j b s) f old new result
-      → IfOk result (λ turn. turn ≡ turn_of (answer_for 0 (SendAgain peer) (resend_refusal (row_of s.devices.peers peer) (outstanding j s peer)))) → Acted adding tearing who 0 (SendAgain peer) (rec j b s) rows rows b s f old new result j b
-  again_acted peer result h answer = record { acts = record { at = s; moved_to = refl; pages = []; effect = sent_again who (rec j b s) peer; effect_is = refl; ends = h; answer = answer }; in_flight = refl; tickets = λ g. g }
+      → IfOk result (λ turn. turn ≡ turn_of (answer_for 0 (SendAgain peer) (resend_refusal (row_of s.devices.peers peer) (outstanding j s peer)))) → Acted adding tearing who 0 (SendAgain peer) (rec j b s) aside aside b s f old new result j b
+  again_acted peer result h answer = record { acts = record { at = s; moved_to = refl; pages = []; effect = sent_again who (rec j b s) peer; effect_is = refl; ends = h; answer = answer }; in_flight = refl; tickets = λ g. g; keeps = λ k. k }
 
-  pub resent : {T : Type 0} (peer : ℕ) (ps : List Piece) (x : T) → again who (outstanding j s peer) ≡ ps → resend_refusal (row_of s.devices.peers peer) (outstanding j s peer) ≡ None → AgainAs adding tearing ps f old new (Ok x) → Acted adding tearing who 0 (SendAgain peer) (rec j b s) rows rows b s f old new (Ok Resent) j b
+  pub resent : {T : Type 0} (peer : ℕ) (ps : List Piece) (x : T) → again who (outstanding j s peer) ≡ ps → resend_refusal (row_of s.devices.peers peer) (outstanding j s peer) ≡ None → AgainAs adding tearing ps f old new (Ok x) → Acted adding tearing who 0 (SendAgain peer) (rec j b s) aside aside b s f old new (Ok Resent) j b
   resent peer ps x e known h = again_acted peer (Ok Resent) (by_again (sent_again who (rec j b s) peer) ps x (again_opening who j b s peer ps e) h Resent) (rw known refl)
 
-  pub unresent : (T : Type 0) (peer : ℕ) (ps : List Piece) (stop : Stop) → again who (outstanding j s peer) ≡ ps → AgainAs {T = T} adding tearing ps f old new (Err stop) → Acted adding tearing who 0 (SendAgain peer) (rec j b s) rows rows b s f old new (Err stop) j b
+  pub unresent : (T : Type 0) (peer : ℕ) (ps : List Piece) (stop : Stop) → again who (outstanding j s peer) ≡ ps → AgainAs {T = T} adding tearing ps f old new (Err stop) → Acted adding tearing who 0 (SendAgain peer) (rec j b s) aside aside b s f old new (Err stop) j b
   unresent T peer ps stop e h = again_acted peer (Err stop) (by_stop T (sent_again who (rec j b s) peer) ps stop (again_opening who j b s peer ps e) h) tt
 
-  pub unsent : (peer : ℕ) (why : NotTaken) → new ≡ old → outstanding j s peer ≡ None → resend_refusal (row_of s.devices.peers peer) None ≡ Some why → Acted adding tearing who 0 (SendAgain peer) (rec j b s) rows rows b s f old new (Ok (Dropped why)) j b
+  pub unsent : (peer : ℕ) (why : NotTaken) → new ≡ old → outstanding j s peer ≡ None → resend_refusal (row_of s.devices.peers peer) None ≡ Some why → Acted adding tearing who 0 (SendAgain peer) (rec j b s) aside aside b s f old new (Ok (Dropped why)) j b
   unsent peer why still none is =
       again_acted peer (Ok (Dropped why)) (by_again {T = Unit {0}} (sent_again who (rec j b s) peer) [] (tt {0}) (again_opening who j b s peer [] (ap (again who) none)) still (Dropped why))
       (let z : resend_refusal (row_of s.devices.peers peer) (outstanding j s peer) ≡ Some why = ap (resend_refusal (row_of s.devices.peers peer)) none ∙ is in rw z refl)
 
-  drop_acted : (o : Option Offer) (why : NotTaken) (result : Result Turn Stop) → refuse_packet s o ≡ Some why → EndsAs adding tearing who (dropped_for who (rec j b s) o why) (rec j b s) f old new result → IfOk result (λ turn. turn ≡ Dropped why) → Acted adding tearing who 0 (TakeIn o) (rec j b s) rows rows b s f old new result j b
-  drop_acted o why result some h answer = record { acts = record { at = s; moved_to = refl; pages = []; effect = dropped_for who (rec j b s) o why; effect_is = rw some refl; ends = h; answer = answer }; in_flight = refl; tickets = λ g. g }
+  drop_acted : (o : Option Offer) (why : NotTaken) (result : Result Turn Stop) → refuse_packet s o ≡ Some why → EndsAs adding tearing who (dropped_for who (rec j b s) o why) (rec j b s) f old new result → IfOk result (λ turn. turn ≡ Dropped why) → Acted adding tearing who 0 (TakeIn o) (rec j b s) aside aside b s f old new result j b
+  drop_acted o why result some h answer = record { acts = record { at = s; moved_to = refl; pages = []; effect = dropped_for who (rec j b s) o why; effect_is = rw some refl; ends = h; answer = answer }; in_flight = refl; tickets = λ g. g; keeps = (λ no. absurd cc, λ k. k) }
 
-  pub dropped_again : {T : Type 0} (o : Option Offer) (why : NotTaken) (ps : List Piece) (x : T) → refuse_packet s o ≡ Some why → again_to who j (repeated_from why o) ≡ ps → AgainAs adding tearing ps f old new (Ok x) → Acted adding tearing who 0 (TakeIn o) (rec j b s) rows rows b s f old new (Ok (Dropped why)) j b
+  pub dropped_again : {T : Type 0} (o : Option Offer) (why : NotTaken) (ps : List Piece) (x : T) → refuse_packet s o ≡ Some why → again_to who j (repeated_from why o) ≡ ps → AgainAs adding tearing ps f old new (Ok x) → Acted adding tearing who 0 (TakeIn o) (rec j b s) aside aside b s f old new (Ok (Dropped why)) j b
   dropped_again o why ps x some e h = drop_acted o why (Ok (Dropped why)) some (by_again (dropped_for who (rec j b s) o why) ps x (drop_opening who j b s o why ps e) h (Dropped why)) refl
 
-  pub undropped : (T : Type 0) (o : Option Offer) (why : NotTaken) (ps : List Piece) (stop : Stop) → refuse_packet s o ≡ Some why → again_to who j (repeated_from why o) ≡ ps → AgainAs {T = T} adding tearing ps f old new (Err stop) → Acted adding tearing who 0 (TakeIn o) (rec j b s) rows rows b s f old new (Err stop) j b
+  pub undropped : (T : Type 0) (o : Option Offer) (why : NotTaken) (ps : List Piece) (stop : Stop) → refuse_packet s o ≡ Some why → again_to who j (repeated_from why o) ≡ ps → AgainAs {T = T} adding tearing ps f old new (Err stop) → Acted adding tearing who 0 (TakeIn o) (rec j b s) aside aside b s f old new (Err stop) j b
   undropped T o why ps stop some e h = drop_acted o why (Err stop) some (by_stop T (dropped_for who (rec j b s) o why) ps stop (drop_opening who j b s o why ps e) h) tt
 
 -- ---- an entry that was sought
@@ -214,9 +214,9 @@ some_at None x P e h = absurd cc
 some_at (Some y) x P e h = let same : y ≡ x = cc in subst P same h
 
 -- a batch that was left as it is
-pub acted_left : {H : Type 0} (adding : Piece → H → H) (tearing : Piece → H → H → Type 0) (who : Sender) (act : Act) (before : Recording) (rows : List KeptRow) (b c : BatchData) (s : State) (f : Faults) (old new : H) (result : Result Turn Stop) (next : JournalData) (flight : List Part) → c ≡ b
-    → Acted adding tearing who 0 act before rows rows b.parts s f old new result next flight → Acted adding tearing who 0 act before rows rows c.parts s f old new result next flight
-acted_left adding tearing who act before rows b c s f old new result next flight same h = subst (λ (x : BatchData). Acted adding tearing who 0 act before rows rows x.parts s f old new result next flight) (sym same) h
+pub acted_left : {H : Type 0} (adding : Piece → H → H) (tearing : Piece → H → H → Type 0) (who : Sender) (act : Act) (before : Recording) (aside : Aside) (b c : BatchData) (s : State) (f : Faults) (old new : H) (result : Result Turn Stop) (next : JournalData) (flight : List Part) → c ≡ b
+    → Acted adding tearing who 0 act before aside aside b.parts s f old new result next flight → Acted adding tearing who 0 act before aside aside c.parts s f old new result next flight
+acted_left adding tearing who act before aside b c s f old new result next flight same h = subst (λ (x : BatchData). Acted adding tearing who 0 act before aside aside x.parts s f old new result next flight) (sym same) h
 
 -- ---- the last message from a peer
 

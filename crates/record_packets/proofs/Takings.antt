@@ -12,11 +12,11 @@ use Rattle.jrnl_store.specs.Kept.{Kept}
 use Rattle.jrnl_store.specs.Own.{IsOwn}
 use Rattle.jrnl_store.specs.declared.fault.Stop.{Stop}
 use Rattle.record_batch.specs.Batch.{BatchData}
-use Rattle.record_kept.specs.declared.kept.KeptRow.{KeptRow}
-use Rattle.record_model.specs.Recording.{Recording, TakeIn}
+use Rattle.record_model.specs.Recording.{Act, Recording, TakeIn}
 use Rattle.record_model.specs.Released.{Sender}
 use Rattle.record_parts.specs.Ends.{Faults}
 use Rattle.record_parts.specs.declared.answers.Turn.{Turn}
+use Rattle.record_turn.specs.Keeping.{Aside}
 use Rattle.record_turn.specs.Leaves.{Acted, Leaves}
 use Rattle.record_machine.specs.Taking.{Takes}
 use Rattle.record_parts.specs.Outs.{ram_in}
@@ -67,6 +67,11 @@ told_kept moment left_since seen images old new k n Q P h = go (seen old) (seen 
     go (Some was) (Some now) h = λ j o q. h j o
 
 -- an input by the bytes that were offered
-pub as_offered : {H : Type 0} (adding : Piece → H → H) (tearing : Piece → H → H → Type 0) (who : Sender) (o p : Option Offer) (before : Recording) (rows after : List KeptRow) (batch : List Part) (machine : State) (f : Faults) (old new : H) (result : Result Turn Stop) (next : JournalData) (flight : List Part) → o ≡ p
-    → Acted adding tearing who 0 (TakeIn p) before rows after batch machine f old new result next flight → Acted adding tearing who 0 (TakeIn o) before rows after batch machine f old new result next flight
-as_offered adding tearing who o p before rows after batch machine f old new result next flight same h = subst (λ (x : Option Offer). Acted adding tearing who 0 (TakeIn x) before rows after batch machine f old new result next flight) (sym same) h
+pub as_offered : {H : Type 0} (adding : Piece → H → H) (tearing : Piece → H → H → Type 0) (who : Sender) (o p : Option Offer) (before : Recording) (aside after : Aside) (batch : List Part) (machine : State) (f : Faults) (old new : H) (result : Result Turn Stop) (next : JournalData) (flight : List Part) → o ≡ p
+    → Acted adding tearing who 0 (TakeIn p) before aside after batch machine f old new result next flight → Acted adding tearing who 0 (TakeIn o) before aside after batch machine f old new result next flight
+as_offered adding tearing who o p before aside after batch machine f old new result next flight same h = subst (λ (x : Option Offer). Acted adding tearing who 0 (TakeIn x) before aside after batch machine f old new result next flight) (sym same) h
+
+-- beside what stands there so too
+pub acted_from : {H : Type 0} (adding : Piece → H → H) (tearing : Piece → H → H → Type 0) (who : Sender) (act : Act) (before : Recording) (aside other after : Aside) (batch : List Part) (machine : State) (f : Faults) (old new : H) (result : Result Turn Stop) (next : JournalData) (flight : List Part) → other ≡ aside
+    → Acted adding tearing who 0 act before other after batch machine f old new result next flight → Acted adding tearing who 0 act before aside after batch machine f old new result next flight
+acted_from adding tearing who act before aside other after batch machine f old new result next flight same h = subst (λ (x : Aside). Acted adding tearing who 0 act before x after batch machine f old new result next flight) same h

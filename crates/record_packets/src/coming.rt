@@ -1,6 +1,6 @@
 //! Packets that come in.
 
-ghost use Rattle.std.specs.Prelude.{◌≡◌, ◌≤◌, OnOk, length, IfOk};
+ghost use Rattle.std.specs.Prelude.{◌≡◌, ◌≤◌, None, OnOk, length, IfOk};
 ghost use Rattle.avm_model.specs.Offer.{packet_offer};
 ghost use Rattle.avm_outside.specs.Outside.{BothTold};
 ghost use Rattle.journal_model.specs.Journal.{JournalData};
@@ -10,7 +10,8 @@ ghost use Rattle.record_kept.specs.Tickets.{AreKeptOf};
 ghost use Rattle.record_model.specs.Recording.{TakeIn};
 ghost use Rattle.record_store.specs.Open.{IsSame};
 ghost use Rattle.record_turn.specs.Desk.{HasDisk, IsReady, rows_of};
-ghost use Rattle.record_turn.specs.Leaves.{Acted, DiskCounts, IsPlain, Leaves, OutletCounts};
+ghost use Rattle.record_turn.specs.Keeping.{aside_of};
+ghost use Rattle.record_turn.specs.Leaves.{Acted, DiskCounts, IsPlain, Leaves, OnOutlet, OutletCounts};
 
 use crate::answering::acknowledge;
 use crate::packets::drop_packet;
@@ -32,7 +33,7 @@ pub fn take_packet<D: Disk, O: Outlet>(
     requires few { length bytes.now ≤ 20000 }
     ensures acts { BothTold (D.seen disk.old) (D.seen disk.new) (λ was now. (j : JournalData) → IsOwn (kept_of desk.old.store.journal) (D.may_leave disk.old) was j → AreKeptOf (rows_of desk.old.kept) j
         → Leaves D.moment D.left_since disk.old disk.new (kept_of desk.new.store.journal) (D.may_leave disk.new) now j
-        (Acted O.adding O.tearing (record { key = desk.old.press.key; own = desk.new.machine.state.devices.own }) 0 (TakeIn (packet_offer bytes.now)) (record { journal = j; batch = desk.old.store.batch.parts; machine = desk.old.machine.state }) (rows_of desk.old.kept) (rows_of desk.new.kept) desk.new.store.batch.parts desk.new.machine.state (record { disk_before = D.faults disk.old; disk_after = D.faults disk.new; outlet_before = O.faults outlet.old; outlet_after = O.faults outlet.new }) (O.held outlet.old) (O.held outlet.new) result)) }
+        (Acted O.adding O.tearing (record { key = desk.old.press.key; own = desk.new.machine.state.devices.own }) 0 (TakeIn (packet_offer bytes.now)) (record { journal = j; batch = desk.old.store.batch.parts; machine = desk.old.machine.state }) (aside_of desk.old.kept desk.old.machine) (aside_of desk.new.kept desk.new.machine) desk.new.store.batch.parts desk.new.machine.state (record { disk_before = D.faults disk.old; disk_after = D.faults disk.new; outlet_before = O.faults outlet.old; outlet_after = O.faults outlet.new }) (O.held outlet.old) (O.held outlet.new) result)) }
     ensures plain { IfOk result IsPlain }
     ensures ready { OnOk result (IsReady (kept_of desk.new.store.journal) desk.new.store.batch) }
     ensures clock { desk.new.machine.state.devices.clock ≡ desk.old.machine.state.devices.clock }
@@ -40,6 +41,7 @@ pub fn take_packet<D: Disk, O: Outlet>(
     ensures same { IsSame (kept_of desk.old.store.journal) (kept_of desk.new.store.journal) }
     ensures disk_faults { DiskCounts (D.faults disk.old) (D.faults disk.new) result }
     ensures outlet_faults { OutletCounts (O.faults outlet.old) (O.faults outlet.new) result }
+    ensures run { OnOutlet result ((kept_of desk.new.store.journal).stop ≡ None) }
     ensures loan { O.loan outlet.new ≡ O.loan outlet.old }
 {
     has_numbers(&desk.store);

@@ -12,7 +12,8 @@ ghost use Rattle.record_model.specs.Recording.{SendAgain, TakeIn};
 ghost use Rattle.record_model.specs.Released.{repeated_from, resend_refusal};
 ghost use Rattle.record_store.specs.Open.{IsSame};
 ghost use Rattle.record_turn.specs.Desk.{HasDisk, IsReady, rows_of};
-ghost use Rattle.record_turn.specs.Leaves.{Acted, DiskCounts, IsPlain, Leaves, OutletCounts};
+ghost use Rattle.record_turn.specs.Keeping.{aside_of};
+ghost use Rattle.record_turn.specs.Leaves.{Acted, DiskCounts, IsPlain, Leaves, OnOutlet, OutletCounts};
 
 use crate::again::{Kind, Parcel, release_again};
 use avm_outside::{Disk, Outlet};
@@ -64,7 +65,7 @@ pub fn send_again<D: Disk, O: Outlet>(
     requires ready { IsReady (kept_of desk.old.store.journal) desk.old.store.batch }
     ensures acts { BothTold (D.seen disk.old) (D.seen disk.new) (λ was now. (j : JournalData) → IsOwn (kept_of desk.old.store.journal) (D.may_leave disk.old) was j → AreKeptOf (rows_of desk.old.kept) j
         → Leaves D.moment D.left_since disk.old disk.new (kept_of desk.new.store.journal) (D.may_leave disk.new) now j
-        (Acted O.adding O.tearing (record { key = desk.old.press.key; own = desk.new.machine.state.devices.own }) 0 (SendAgain peer) (record { journal = j; batch = desk.old.store.batch.parts; machine = desk.old.machine.state }) (rows_of desk.old.kept) (rows_of desk.new.kept) desk.new.store.batch.parts desk.new.machine.state (record { disk_before = D.faults disk.old; disk_after = D.faults disk.new; outlet_before = O.faults outlet.old; outlet_after = O.faults outlet.new }) (O.held outlet.old) (O.held outlet.new) result)) }
+        (Acted O.adding O.tearing (record { key = desk.old.press.key; own = desk.new.machine.state.devices.own }) 0 (SendAgain peer) (record { journal = j; batch = desk.old.store.batch.parts; machine = desk.old.machine.state }) (aside_of desk.old.kept desk.old.machine) (aside_of desk.new.kept desk.new.machine) desk.new.store.batch.parts desk.new.machine.state (record { disk_before = D.faults disk.old; disk_after = D.faults disk.new; outlet_before = O.faults outlet.old; outlet_after = O.faults outlet.new }) (O.held outlet.old) (O.held outlet.new) result)) }
     ensures plain { IfOk result IsPlain }
     ensures ready { IsReady (kept_of desk.new.store.journal) desk.new.store.batch }
     ensures machine { desk.new.machine ≡ desk.old.machine }
@@ -72,6 +73,7 @@ pub fn send_again<D: Disk, O: Outlet>(
     ensures same { IsSame (kept_of desk.old.store.journal) (kept_of desk.new.store.journal) }
     ensures disk_faults { DiskCounts (D.faults disk.old) (D.faults disk.new) result }
     ensures outlet_faults { OutletCounts (O.faults outlet.old) (O.faults outlet.new) result }
+    ensures run { OnOutlet result ((kept_of desk.new.store.journal).stop ≡ None) }
     ensures loan { O.loan outlet.new ≡ O.loan outlet.old }
 {
     let Some(ticket) = desk.kept.outstanding(&desk.machine, peer) else {
@@ -103,7 +105,7 @@ pub(crate) fn drop_packet<D: Disk, O: Outlet>(
     requires refused { refuse_packet desk.old.machine.state (packet_offer bytes.now) ≡ Some why }
     ensures acts { BothTold (D.seen disk.old) (D.seen disk.new) (λ was now. (j : JournalData) → IsOwn (kept_of desk.old.store.journal) (D.may_leave disk.old) was j → AreKeptOf (rows_of desk.old.kept) j
         → Leaves D.moment D.left_since disk.old disk.new (kept_of desk.new.store.journal) (D.may_leave disk.new) now j
-        (Acted O.adding O.tearing (record { key = desk.old.press.key; own = desk.new.machine.state.devices.own }) 0 (TakeIn (packet_offer bytes.now)) (record { journal = j; batch = desk.old.store.batch.parts; machine = desk.old.machine.state }) (rows_of desk.old.kept) (rows_of desk.new.kept) desk.new.store.batch.parts desk.new.machine.state (record { disk_before = D.faults disk.old; disk_after = D.faults disk.new; outlet_before = O.faults outlet.old; outlet_after = O.faults outlet.new }) (O.held outlet.old) (O.held outlet.new) result)) }
+        (Acted O.adding O.tearing (record { key = desk.old.press.key; own = desk.new.machine.state.devices.own }) 0 (TakeIn (packet_offer bytes.now)) (record { journal = j; batch = desk.old.store.batch.parts; machine = desk.old.machine.state }) (aside_of desk.old.kept desk.old.machine) (aside_of desk.new.kept desk.new.machine) desk.new.store.batch.parts desk.new.machine.state (record { disk_before = D.faults disk.old; disk_after = D.faults disk.new; outlet_before = O.faults outlet.old; outlet_after = O.faults outlet.new }) (O.held outlet.old) (O.held outlet.new) result)) }
     ensures plain { IfOk result IsPlain }
     ensures ready { IsReady (kept_of desk.new.store.journal) desk.new.store.batch }
     ensures machine { desk.new.machine ≡ desk.old.machine }
@@ -111,6 +113,7 @@ pub(crate) fn drop_packet<D: Disk, O: Outlet>(
     ensures same { IsSame (kept_of desk.old.store.journal) (kept_of desk.new.store.journal) }
     ensures disk_faults { DiskCounts (D.faults disk.old) (D.faults disk.new) result }
     ensures outlet_faults { OutletCounts (O.faults outlet.old) (O.faults outlet.new) result }
+    ensures run { OnOutlet result ((kept_of desk.new.store.journal).stop ≡ None) }
     ensures loan { O.loan outlet.new ≡ O.loan outlet.old }
 {
     desk.machine.bounds();

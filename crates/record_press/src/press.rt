@@ -160,6 +160,13 @@ impl Press {
         self.signer.public()
     }
 
+    /// Gives the key back.
+    pub fn into_signer(self) -> Signer
+        ensures { result ≡ self.key }
+    {
+        self.signer
+    }
+
     /// Makes the DATA packet of a SEND entry's content, signed at the leaf of its ticket.
     pub fn make_data(&mut self, own: u32, content: &[u8], ticket: &Ticket)
         requires leaf { (ticket_view ticket.now).leaf < 2 ^ height_of self.old.key.lms }

@@ -25,6 +25,9 @@ use Rattle.record_parts.proofs.Effects.{IsNext, step_closing, step_opening}
 use Rattle.record_parts.proofs.Ends.{Closing, ends_cut, ends_open, ends_refused, ends_saved, made_same, rec}
 use Rattle.record_parts.proofs.Releases.{batch_releases}
 use Rattle.record_store.specs.Open.{IsOpen}
+use Rattle.avm_model.specs.Memory.{RamState}
+use Rattle.record_turn.proofs.Keeps.{beside}
+use Rattle.record_turn.specs.Keeping.{KeepsStep}
 use Rattle.record_turn.specs.Leaves.{Finished}
 
 -- the batch's number is the next behind a journal whose own disk this is
@@ -55,14 +58,16 @@ module _ {H : Type 0} (adding : Piece → H → H) (tearing : Piece → H → H 
   flies : c.parts ≡ effect.recording.batch
   flies = ap (λ (x : BatchData). x.parts) w.batch ∙ ap (λ (n : ℕ). b.parts ++ made_parts n t pages (outs_made t o)) next
 
-  pub finish_open : (f : Faults) (held : H) (rows : List KeptRow) → outs_made t o ≡ [] → is_large c.parts ≡ false → Finished {T = Unit {0}} adding tearing sender (rec j b.parts t) (outs_made t o) rows rows c.parts u f held held (Ok tt) j c.parts
-  finish_open f held rows none small =
+  pub finish_open : (f : Faults) (held : H) (rows : List KeptRow) (ram after_ram : RamState) → KeepsStep j b.parts t (outs_made t o) pages ram after_ram → outs_made t o ≡ [] → is_large c.parts ≡ false
+      → Finished {T = Unit {0}} adding tearing sender (rec j b.parts t) (outs_made t o) (beside rows ram) (beside rows after_ram) c.parts u f held held (Ok tt) j c.parts
+  finish_open f held rows ram after_ram truth none small =
       let op = step_opening j b t t pages (outs_made t o) next none (subst (λ (x : BatchData). is_large x.parts ≡ false) w.batch small) in
       record {
         pages = pages;
         ends = ends_open adding tearing sender effect (rec j c.parts u) f held held [] (tt {0}) (record { closes = op.closes; recording = same ∙ op.recording; again = op.again }) refl;
         in_flight = flies;
         tickets = λ h. h;
+        keeps = truth;
       }
 
   closing : (outs_made t o ≡ [] → ⊥) ⊎ (is_large c.parts ≡ true) → Closing effect j c.parts u
@@ -70,12 +75,14 @@ module _ {H : Type 0} (adding : Piece → H → H) (tearing : Piece → H → H 
       let cl = step_closing j b t t pages (outs_made t o) next (subst (λ (x : BatchData). (outs_made t o ≡ [] → ⊥) ⊎ (is_large x.parts ≡ true)) w.batch due) in
       record { closes = cl.closes; recording = cl.recording ∙ sym same }
 
-  pub finish_refused : (T : Type 0) (f : Faults) (held : H) (rows : List KeptRow) (rest : List Part) (stop : Stop) → (outs_made t o ≡ [] → ⊥) ⊎ (is_large c.parts ≡ true) → SavedAs {T = T} j c.parts j rest f (Err stop) → Finished {T = Unit {0}} adding tearing sender (rec j b.parts t) (outs_made t o) rows rows rest u f held held (Err stop) j c.parts
-  finish_refused T f held rows rest stop due saved = record {
+  pub finish_refused : (T : Type 0) (f : Faults) (held : H) (rows : List KeptRow) (ram after_ram : RamState) (rest : List Part) (stop : Stop) → KeepsStep j b.parts t (outs_made t o) pages ram after_ram → (outs_made t o ≡ [] → ⊥) ⊎ (is_large c.parts ≡ true) → SavedAs {T = T} j c.parts j rest f (Err stop)
+      → Finished {T = Unit {0}} adding tearing sender (rec j b.parts t) (outs_made t o) (beside rows ram) (beside rows after_ram) rest u f held held (Err stop) j c.parts
+  finish_refused T f held rows ram after_ram rest stop truth due saved = record {
     pages = pages;
     ends = ends_refused T (Unit {0}) adding tearing sender effect j j c.parts rest u f held stop (closing due) saved;
     in_flight = flies;
     tickets = λ h. h;
+    keeps = truth;
   }
 
   -- what the whole batch releases
@@ -96,22 +103,24 @@ module _ {H : Type 0} (adding : Piece → H → H) (tearing : Piece → H → H 
       let first : ticket ≡ first_of (signed_from (standing j) wrote) = e ∙ ap (λ (s : StandingData). first_of (signed_from s c.parts)) own.keeps.standing ∙ ap (λ (x : BatchData). first_of (signed_from (standing j) x.parts)) w.batch in
       subst (λ (x : BatchData). AreKeptOf after (with_record j x.parts)) (sym w.batch) (more next w.quiet w.fits first h)
 
-  pub finish_saved : {T : Type 0} (x : T) (f : Faults) (old new : H) (rows after : List KeptRow) (rest : List Part) (ticket : Option SignedData) → (outs_made t o ≡ [] → ⊥) ⊎ (is_large c.parts ≡ true) → SavedAs {T = T} j c.parts (with_record j c.parts) rest f (Ok x)
+  pub finish_saved : {T : Type 0} (x : T) (f : Faults) (old new : H) (rows after : List KeptRow) (ram after_ram : RamState) (rest : List Part) (ticket : Option SignedData) → KeepsStep j b.parts t (outs_made t o) pages ram after_ram → (outs_made t o ≡ [] → ⊥) ⊎ (is_large c.parts ≡ true) → SavedAs {T = T} j c.parts (with_record j c.parts) rest f (Ok x)
       → ticket ≡ first_of (signed_from k.standing c.parts) → new ≡ all_added adding (line_pieces o.line ++ sent_pieces (record { key = key; own = u.devices.own }) u o.sent ticket) old
-      → (AreKeptOf rows j → AreKeptOf after (with_record j c.parts)) → Finished {T = Unit {0}} adding tearing sender (rec j b.parts t) (outs_made t o) rows after rest u f old new (Ok tt) (with_record j c.parts) c.parts
-  finish_saved x f old new rows after rest ticket due saved e told kept = record {
+      → (AreKeptOf rows j → AreKeptOf after (with_record j c.parts)) → Finished {T = Unit {0}} adding tearing sender (rec j b.parts t) (outs_made t o) (beside rows ram) (beside after after_ram) rest u f old new (Ok tt) (with_record j c.parts) c.parts
+  finish_saved x f old new rows after ram after_ram rest ticket truth due saved e told kept = record {
     pages = pages;
     ends = ends_saved adding tearing sender effect j (with_record j c.parts) c.parts rest u f old new _ x (tt {0}) (closing due) saved (releases ticket e) told;
     in_flight = flies;
     tickets = kept;
+    keeps = truth;
   }
 
-  pub finish_cut : {T : Type 0} (x : T) (f : Faults) (old new : H) (rows after : List KeptRow) (rest : List Part) (ticket : Option SignedData) → (outs_made t o ≡ [] → ⊥) ⊎ (is_large c.parts ≡ true) → SavedAs {T = T} j c.parts (with_record j c.parts) rest f (Ok x)
+  pub finish_cut : {T : Type 0} (x : T) (f : Faults) (old new : H) (rows after : List KeptRow) (ram after_ram : RamState) (rest : List Part) (ticket : Option SignedData) → KeepsStep j b.parts t (outs_made t o) pages ram after_ram → (outs_made t o ≡ [] → ⊥) ⊎ (is_large c.parts ≡ true) → SavedAs {T = T} j c.parts (with_record j c.parts) rest f (Ok x)
       → ticket ≡ first_of (signed_from k.standing c.parts) → CutsAmong adding tearing (line_pieces o.line ++ sent_pieces (record { key = key; own = u.devices.own }) u o.sent ticket) old new → Rises f.outlet_before f.outlet_after
-      → (AreKeptOf rows j → AreKeptOf after (with_record j c.parts)) → Finished {T = Unit {0}} adding tearing sender (rec j b.parts t) (outs_made t o) rows after rest u f old new (Err OutletFault) (with_record j c.parts) c.parts
-  finish_cut x f old new rows after rest ticket due saved e cut rises kept = record {
+      → (AreKeptOf rows j → AreKeptOf after (with_record j c.parts)) → Finished {T = Unit {0}} adding tearing sender (rec j b.parts t) (outs_made t o) (beside rows ram) (beside after after_ram) rest u f old new (Err OutletFault) (with_record j c.parts) c.parts
+  finish_cut x f old new rows after ram after_ram rest ticket truth due saved e cut rises kept = record {
     pages = pages;
     ends = ends_cut (Unit {0}) adding tearing sender effect j (with_record j c.parts) c.parts rest u f old new _ x (closing due) saved (releases ticket e) cut rises;
     in_flight = flies;
     tickets = kept;
+    keeps = truth;
   }

@@ -1,7 +1,9 @@
 pub mod Batches
 pub mod Told
+pub mod Keeps
 pub mod Finishes
 pub mod Steps
 pub mod Settles
 pub mod Seals
 pub mod Inputs
+pub mod Runs

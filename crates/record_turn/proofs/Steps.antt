@@ -16,6 +16,11 @@ use Rattle.record_batch.specs.Batch.{BatchData, with_part}
 use Rattle.record_batch.specs.Spelled.{numbered}
 use Rattle.record_kept.specs.Tickets.{AreKeptOf}
 use Rattle.record_kept.specs.declared.kept.KeptRow.{KeptRow}
+use Rattle.avm_model.specs.Content.{FitsContent}
+use Rattle.avm_model.specs.Memory.{RamState}
+use Rattle.avm_model.specs.PageMarks.{MarksPages}
+use Rattle.record_turn.proofs.Keeps.{beside, steps_before}
+use Rattle.record_turn.specs.Keeping.{KeepsStep}
 use Rattle.record_model.specs.Recording.{AnswerClock, Recording, StepOn, frame_of, given_at, made_parts, next_of, offer_content, with_input, with_step}
 use Rattle.record_model.specs.Released.{Sender}
 use Rattle.record_parts.specs.Ends.{EndsAs, Faults}
@@ -33,13 +38,13 @@ takes : (s : State) (value : ℕ) → asks s ≡ true → s.devices.clock ≡ No
 unfolding take_of refused
 takes s value a none = rw (a, none) refl
 
-module _ {H : Type 0} (adding : Piece → H → H) (tearing : Piece → H → H → Type 0) (who : Sender) (rows after : List KeptRow) (rest : List Part) (u : State) (f : Faults) (old new : H) (next : JournalData) (flight : List Part) where
+module _ {H : Type 0} (adding : Piece → H → H) (tearing : Piece → H → H → Type 0) (who : Sender) (rows after : List KeptRow) (ram mid after_ram : RamState) (marked : MarksPages ram mid) (rest : List Part) (u : State) (f : Faults) (old new : H) (next : JournalData) (flight : List Part) where
   -- ---- a spell
 
   spelled : (until : ℕ) (j : JournalData) (b : List Part) (s t : State) (o : Outs) (n : ℕ) (result : Result Turn Stop) (pages : List ℕ) → IsSpellTo until s t o n
       → EndsAs adding tearing who (with_step (rec j b t) pages (t, outs_made t o)) (rec next rest u) f old new result → flight ≡ b ++ made_parts (next_of (rec j b t)) t pages (outs_made t o) → IfOk result (λ turn. turn ≡ Ran n)
-      → (AreKeptOf rows j → AreKeptOf after next) → Spelled adding tearing who until (rec j b s) rows after rest u f old new result next flight
-  spelled until j b s t o n result pages sp h fl answer kept =
+      → (AreKeptOf rows j → AreKeptOf after next) → KeepsStep j b t (outs_made t o) pages mid after_ram → Spelled adding tearing who until (rec j b s) (beside rows ram) (beside after after_ram) rest u f old new result next flight
+  spelled until j b s t o n result pages sp h fl answer kept truth =
       let last : State = sp.spell.last in
       let one : EndsAs adding tearing who (with_step (rec j b last) pages (sp.spell.after, outs_made t o)) (rec next rest u) f old new result = subst (λ (x : State). EndsAs adding tearing who (with_step (rec j b last) pages (x, outs_made t o)) (rec next rest u) f old new result) (sym sp.after) h in
       let two : EndsAs adding tearing who (with_step (rec j b last) pages (sp.spell.after, sp.spell.outs)) (rec next rest u) f old new result = subst (λ (os : List Made). EndsAs adding tearing who (with_step (rec j b last) pages (sp.spell.after, os)) (rec next rest u) f old new result) (sym sp.outs) one in
@@ -60,42 +65,48 @@ module _ {H : Type 0} (adding : Piece → H → H) (tearing : Piece → H → H 
           };
           in_flight = four;
           tickets = kept;
+          keeps = record {
+            outs = sp.spell.outs;
+            step = sp.spell.step;
+            keeps = subst (λ (os : List Made). KeepsStep j b sp.spell.after os pages ram after_ram) (sym sp.outs) (subst (λ (x : State). KeepsStep j b x (outs_made t o) pages ram after_ram) (sym sp.after) (steps_before j b t (outs_made t o) pages ram mid after_ram marked truth));
+          };
         };
       }
 
-  pub spelled_on : {T : Type 0} (x : T) (until : ℕ) (j : JournalData) (b : List Part) (s t : State) (o : Outs) (n : ℕ) → IsSpellTo until s t o n → Finished {T = T} adding tearing who (rec j b t) (outs_made t o) rows after rest u f old new (Ok x) next flight
-      → Spelled adding tearing who until (rec j b s) rows after rest u f old new (Ok (Ran n)) next flight
-  spelled_on x until j b s t o n sp h = spelled until j b s t o n (Ok (Ran n)) h.pages sp h.ends h.in_flight refl h.tickets
+  pub spelled_on : {T : Type 0} (x : T) (until : ℕ) (j : JournalData) (b : List Part) (s t : State) (o : Outs) (n : ℕ) → IsSpellTo until s t o n → Finished {T = T} adding tearing who (rec j b t) (outs_made t o) (beside rows mid) (beside after after_ram) rest u f old new (Ok x) next flight
+      → Spelled adding tearing who until (rec j b s) (beside rows ram) (beside after after_ram) rest u f old new (Ok (Ran n)) next flight
+  spelled_on x until j b s t o n sp h = spelled until j b s t o n (Ok (Ran n)) h.pages sp h.ends h.in_flight refl h.tickets h.keeps
 
-  pub spelled_stopped : (until : ℕ) (j : JournalData) (b : List Part) (s t : State) (o : Outs) (n : ℕ) (stop : Stop) → IsSpellTo until s t o n → Finished {T = Unit {0}} adding tearing who (rec j b t) (outs_made t o) rows after rest u f old new (Err stop) next flight
-      → Spelled adding tearing who until (rec j b s) rows after rest u f old new (Err stop) next flight
-  spelled_stopped until j b s t o n stop sp h = spelled until j b s t o n (Err stop) h.pages sp (as_err (Unit {0}) Turn adding tearing who _ _ f old new stop h.ends) h.in_flight tt h.tickets
+  pub spelled_stopped : (until : ℕ) (j : JournalData) (b : List Part) (s t : State) (o : Outs) (n : ℕ) (stop : Stop) → IsSpellTo until s t o n → Finished {T = Unit {0}} adding tearing who (rec j b t) (outs_made t o) (beside rows mid) (beside after after_ram) rest u f old new (Err stop) next flight
+      → Spelled adding tearing who until (rec j b s) (beside rows ram) (beside after after_ram) rest u f old new (Err stop) next flight
+  spelled_stopped until j b s t o n stop sp h = spelled until j b s t o n (Err stop) h.pages sp (as_err (Unit {0}) Turn adding tearing who _ _ f old new stop h.ends) h.in_flight tt h.tickets h.keeps
 
   -- ---- one step
 
   stepped : (j : JournalData) (b : List Part) (s t : State) (os : List Made) (result : Result Turn Stop) (pages : List ℕ) → step_of s ≡ Some (t, os)
       → EndsAs adding tearing who (with_step (rec j b t) pages (t, os)) (rec next rest u) f old new result → flight ≡ b ++ made_parts (next_of (rec j b t)) t pages os → IfOk result (λ turn. turn ≡ Ran 1)
-      → (AreKeptOf rows j → AreKeptOf after next) → Acted adding tearing who 0 StepOn (rec j b s) rows after rest u f old new result next flight
-  stepped j b s t os result pages st h fl answer kept = record {
+      → (AreKeptOf rows j → AreKeptOf after next) → KeepsStep j b t os pages mid after_ram → Acted adding tearing who 0 StepOn (rec j b s) (beside rows ram) (beside after after_ram) rest u f old new result next flight
+  stepped j b s t os result pages st h fl answer kept truth = record {
     acts = record { at = s; moved_to = refl; pages = pages; effect = with_step (rec j b s) pages (t, os); effect_is = rw st refl; ends = h; answer = answer };
     in_flight = fl;
     tickets = kept;
+    keeps = record { outs = os; step = st; keeps = steps_before j b t os pages ram mid after_ram marked truth };
   }
 
-  pub stepped_on_to : {T : Type 0} (x : T) (j : JournalData) (b : List Part) (s t : State) (os : List Made) → step_of s ≡ Some (t, os) → Finished {T = T} adding tearing who (rec j b t) os rows after rest u f old new (Ok x) next flight
-      → Acted adding tearing who 0 StepOn (rec j b s) rows after rest u f old new (Ok (Ran 1)) next flight
-  stepped_on_to x j b s t os st h = stepped j b s t os (Ok (Ran 1)) h.pages st h.ends h.in_flight refl h.tickets
+  pub stepped_on_to : {T : Type 0} (x : T) (j : JournalData) (b : List Part) (s t : State) (os : List Made) → step_of s ≡ Some (t, os) → Finished {T = T} adding tearing who (rec j b t) os (beside rows mid) (beside after after_ram) rest u f old new (Ok x) next flight
+      → Acted adding tearing who 0 StepOn (rec j b s) (beside rows ram) (beside after after_ram) rest u f old new (Ok (Ran 1)) next flight
+  stepped_on_to x j b s t os st h = stepped j b s t os (Ok (Ran 1)) h.pages st h.ends h.in_flight refl h.tickets h.keeps
 
-  pub stepped_stopped : (j : JournalData) (b : List Part) (s t : State) (os : List Made) (stop : Stop) → step_of s ≡ Some (t, os) → Finished {T = Unit {0}} adding tearing who (rec j b t) os rows after rest u f old new (Err stop) next flight
-      → Acted adding tearing who 0 StepOn (rec j b s) rows after rest u f old new (Err stop) next flight
-  stepped_stopped j b s t os stop st h = stepped j b s t os (Err stop) h.pages st (as_err (Unit {0}) Turn adding tearing who _ _ f old new stop h.ends) h.in_flight tt h.tickets
+  pub stepped_stopped : (j : JournalData) (b : List Part) (s t : State) (os : List Made) (stop : Stop) → step_of s ≡ Some (t, os) → Finished {T = Unit {0}} adding tearing who (rec j b t) os (beside rows mid) (beside after after_ram) rest u f old new (Err stop) next flight
+      → Acted adding tearing who 0 StepOn (rec j b s) (beside rows ram) (beside after after_ram) rest u f old new (Err stop) next flight
+  stepped_stopped j b s t os stop st h = stepped j b s t os (Err stop) h.pages st (as_err (Unit {0}) Turn adding tearing who _ _ f old new stop h.ends) h.in_flight tt h.tickets h.keeps
 
   -- ---- a clock value
 
   answered : (j : JournalData) (b c : BatchData) (s t : State) (os : List Made) (value : ℕ) (result : Result Turn Stop) (pages : List ℕ) → IsNext j b → asks s ≡ true → s.devices.clock ≡ None → c ≡ with_part b (numbered b.next (offer_content s.count (OfferClock value))) 1 → step_of (taken s (OfferClock value)) ≡ Some (t, os)
       → EndsAs adding tearing who (with_step (rec j c.parts t) pages (t, os)) (rec next rest u) f old new result → flight ≡ c.parts ++ made_parts (next_of (rec j c.parts t)) t pages os → IfOk result (λ turn. turn ≡ Ran 1)
-      → (AreKeptOf rows j → AreKeptOf after next) → Acted adding tearing who 0 (AnswerClock value) (rec j b.parts s) rows after rest u f old new result next flight
-  answered j b c s t os value result pages is_next a none wrote st h fl answer kept =
+      → (AreKeptOf rows j → AreKeptOf after next) → FitsContent (offer_content s.count (OfferClock value)) → KeepsStep j c.parts t os pages mid after_ram → Acted adding tearing who 0 (AnswerClock value) (rec j b.parts s) (beside rows ram) (beside after after_ram) rest u f old new result next flight
+  answered j b c s t os value result pages is_next a none wrote st h fl answer kept fits truth =
       let written : Recording = with_input (rec j b.parts s) (OfferClock value) (taken s (OfferClock value)) in
       let e : c.parts ≡ written.batch = ap (λ (x : BatchData). x.parts) wrote ∙ ap (λ (n : ℕ). b.parts ++ entry (frame_of n (offer_content s.count (OfferClock value))) ∷ []) is_next in
       record {
@@ -110,15 +121,16 @@ module _ {H : Type 0} (adding : Piece → H → H) (tearing : Piece → H → H 
         };
         in_flight = subst (λ (ps : List Part). flight ≡ ps ++ made_parts (next_of (rec j ps t)) t pages os) e fl;
         tickets = kept;
+        keeps = (fits, record { outs = os; step = st; keeps = subst (λ (ps : List Part). KeepsStep j ps t os pages ram after_ram) e (steps_before j c.parts t os pages ram mid after_ram marked truth) });
       }
 
   pub answered_on : {T : Type 0} (x : T) (j : JournalData) (b c : BatchData) (s t : State) (os : List Made) (value : ℕ) → IsNext j b → asks s ≡ true → s.devices.clock ≡ None → c ≡ with_part b (numbered b.next (offer_content s.count (OfferClock value))) 1 → step_of (taken s (OfferClock value)) ≡ Some (t, os)
-      → Finished {T = T} adding tearing who (rec j c.parts t) os rows after rest u f old new (Ok x) next flight → Acted adding tearing who 0 (AnswerClock value) (rec j b.parts s) rows after rest u f old new (Ok (Ran 1)) next flight
-  answered_on x j b c s t os value is_next a none wrote st h = answered j b c s t os value (Ok (Ran 1)) h.pages is_next a none wrote st h.ends h.in_flight refl h.tickets
+      → FitsContent (offer_content s.count (OfferClock value)) → Finished {T = T} adding tearing who (rec j c.parts t) os (beside rows mid) (beside after after_ram) rest u f old new (Ok x) next flight → Acted adding tearing who 0 (AnswerClock value) (rec j b.parts s) (beside rows ram) (beside after after_ram) rest u f old new (Ok (Ran 1)) next flight
+  answered_on x j b c s t os value is_next a none wrote st fits h = answered j b c s t os value (Ok (Ran 1)) h.pages is_next a none wrote st h.ends h.in_flight refl h.tickets fits h.keeps
 
   pub answered_stopped : (j : JournalData) (b c : BatchData) (s t : State) (os : List Made) (value : ℕ) (stop : Stop) → IsNext j b → asks s ≡ true → s.devices.clock ≡ None → c ≡ with_part b (numbered b.next (offer_content s.count (OfferClock value))) 1 → step_of (taken s (OfferClock value)) ≡ Some (t, os)
-      → Finished {T = Unit {0}} adding tearing who (rec j c.parts t) os rows after rest u f old new (Err stop) next flight → Acted adding tearing who 0 (AnswerClock value) (rec j b.parts s) rows after rest u f old new (Err stop) next flight
-  answered_stopped j b c s t os value stop is_next a none wrote st h = answered j b c s t os value (Err stop) h.pages is_next a none wrote st (as_err (Unit {0}) Turn adding tearing who _ _ f old new stop h.ends) h.in_flight tt h.tickets
+      → FitsContent (offer_content s.count (OfferClock value)) → Finished {T = Unit {0}} adding tearing who (rec j c.parts t) os (beside rows mid) (beside after after_ram) rest u f old new (Err stop) next flight → Acted adding tearing who 0 (AnswerClock value) (rec j b.parts s) (beside rows ram) (beside after after_ram) rest u f old new (Err stop) next flight
+  answered_stopped j b c s t os value stop is_next a none wrote st fits h = answered j b c s t os value (Err stop) h.pages is_next a none wrote st (as_err (Unit {0}) Turn adding tearing who _ _ f old new stop h.ends) h.in_flight tt h.tickets fits h.keeps
 
 -- ---- a step that a pending clock lets be made
 

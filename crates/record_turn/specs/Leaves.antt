@@ -20,6 +20,7 @@ use Rattle.record_parts.specs.declared.answers.Sealed.TheVariants.{Again, Done, 
 use Rattle.record_parts.specs.declared.answers.Turn.{Turn}
 use Rattle.record_parts.specs.declared.answers.Turn.TheVariants.{Stopped, Ended}
 use Rattle.record_store.specs.Saving.{Holds}
+use Rattle.record_turn.specs.Keeping.{Aside, KeepsAct, KeepsStep}
 
 -- Of a disk whose journal was j: it is the own disk of the next journal; at any moment of the call a crash leaves an image that stands for
 -- j, or for j with the batch in flight; and next and flight have P.
@@ -30,23 +31,26 @@ pub record Leaves {D : Type 0} (moment : D → ℕ) (left_since : D → ℕ → 
   pub is : P next flight
 
 -- the step that was made is written, saved where its batch closes, and then released
-pub record Finished {H T : Type 0} (adding : Piece → H → H) (tearing : Piece → H → H → Type 0) (who : Sender) (before : Recording) (os : List Made) (rows after_rows : List KeptRow) (batch : List Part) (machine : State) (f : Faults) (old new : H) (result : Result T Stop) (next : JournalData) (flight : List Part) : Type 0 where
+pub record Finished {H T : Type 0} (adding : Piece → H → H) (tearing : Piece → H → H → Type 0) (who : Sender) (before : Recording) (os : List Made) (aside after_aside : Aside) (batch : List Part) (machine : State) (f : Faults) (old new : H) (result : Result T Stop) (next : JournalData) (flight : List Part) : Type 0 where
   pub pages : List ℕ
   pub ends : EndsAs adding tearing who (with_step before pages (before.machine, os)) (record { journal = next; batch = batch; machine = machine }) f old new result
   pub in_flight : flight ≡ (with_step before pages (before.machine, os)).recording.batch
-  pub tickets : AreKeptOf rows before.journal → AreKeptOf after_rows next
+  pub tickets : AreKeptOf aside.rows before.journal → AreKeptOf after_aside.rows next
+  pub keeps : KeepsStep before.journal before.batch before.machine os pages aside.ram after_aside.ram
 
--- an act is done, its batch is what was in flight, and the tickets that are kept are those of the next journal
-pub record Acted {H : Type 0} (adding : Piece → H → H) (tearing : Piece → H → H → Type 0) (who : Sender) (quiet : ℕ) (act : Act) (before : Recording) (rows after_rows : List KeptRow) (batch : List Part) (machine : State) (f : Faults) (old new : H) (result : Result Turn Stop) (next : JournalData) (flight : List Part) : Type 0 where
+-- an act is done, its batch is what was in flight, the tickets that are kept are those of the next journal, and what it writes leaves each
+-- keep true
+pub record Acted {H : Type 0} (adding : Piece → H → H) (tearing : Piece → H → H → Type 0) (who : Sender) (quiet : ℕ) (act : Act) (before : Recording) (aside after_aside : Aside) (batch : List Part) (machine : State) (f : Faults) (old new : H) (result : Result Turn Stop) (next : JournalData) (flight : List Part) : Type 0 where
   pub acts : Acts adding tearing who quiet act before (record { journal = next; batch = batch; machine = machine }) f old new result
   pub in_flight : flight ≡ acts.effect.recording.batch
-  pub tickets : AreKeptOf rows before.journal → AreKeptOf after_rows next
+  pub tickets : AreKeptOf aside.rows before.journal → AreKeptOf after_aside.rows next
+  pub keeps : KeepsAct act (record before { machine = acts.at }) acts.effect acts.pages aside.ram after_aside.ram
 
 -- a spell of steps
-pub record Spelled {H : Type 0} (adding : Piece → H → H) (tearing : Piece → H → H → Type 0) (who : Sender) (until : ℕ) (before : Recording) (rows after_rows : List KeptRow) (batch : List Part) (machine : State) (f : Faults) (old new : H) (result : Result Turn Stop) (next : JournalData) (flight : List Part) : Type 0 where
+pub record Spelled {H : Type 0} (adding : Piece → H → H) (tearing : Piece → H → H → Type 0) (who : Sender) (until : ℕ) (before : Recording) (aside after_aside : Aside) (batch : List Part) (machine : State) (f : Faults) (old new : H) (result : Result Turn Stop) (next : JournalData) (flight : List Part) : Type 0 where
   pub quiet : ℕ
   pub spell : IsSpell until before.machine quiet
-  pub acted : Acted adding tearing who quiet StepOn before rows after_rows batch machine f old new result next flight
+  pub acted : Acted adding tearing who quiet StepOn before aside after_aside batch machine f old new result next flight
 
 -- The batch is saved with a seal, and the last entry's authenticator released; or that of the last seal is released again.
 pub record Seals {H : Type 0} (adding : Piece → H → H) (tearing : Piece → H → H → Type 0) (who : Sender) (before : Recording) (rows : List KeptRow) (batch : List Part) (f : Faults) (old new : H) (result : Result Sealed Stop) (next : JournalData) (flight : List Part) : Type 0 where
@@ -77,6 +81,15 @@ DiskCounts before now (Err Full) = now ≡ before
 DiskCounts before now (Err DiskFault) = Rises before now
 DiskCounts before now (Err OutletFault) = now ≡ before
 DiskCounts before now (Err FeedFault) = ⊥
+
+-- what holds where the outlet failed, which is asked only behind a saving
+abbrev pub OnOutlet : {T : Type 0} → Result T Stop → Type 0 → Type 0
+OnOutlet (Ok x) P = Unit {0}
+OnOutlet (Err LeavesSpent) P = Unit {0}
+OnOutlet (Err Full) P = Unit {0}
+OnOutlet (Err DiskFault) P = Unit {0}
+OnOutlet (Err OutletFault) P = P
+OnOutlet (Err FeedFault) P = Unit {0}
 
 -- what isn't stopped answers neither of the two that say so
 abbrev pub IsPlain : Turn → Type 0

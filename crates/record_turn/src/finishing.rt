@@ -12,8 +12,8 @@ ghost use Rattle.record_batch.specs.Batch.{HasPlace, batch_size};
 ghost use Rattle.record_model.specs.Recording.{is_large as is_large_lem};
 ghost use Rattle.record_parts.specs.Outs.{AreQuiet, outs_made};
 ghost use Rattle.record_store.specs.Open.{IsOpen, IsSame};
-ghost use Rattle.record_turn.specs.Desk.{rows_of};
-ghost use Rattle.record_turn.specs.Leaves.{DiskCounts, Finished, Leaves, OutletCounts};
+ghost use Rattle.record_turn.specs.Keeping.{aside_of};
+ghost use Rattle.record_turn.specs.Leaves.{DiskCounts, Finished, Leaves, OnOutlet, OutletCounts};
 
 use crate::desk::Desk;
 use crate::releasing::release_outs;
@@ -62,7 +62,7 @@ impl Desk {
         requires count { self.old.machine.state.count < 2 ^ 62 }
         ensures ends { BothTold (D.seen disk.old) (D.seen disk.new) (λ was now. (j : JournalData) → IsOwn (kept_of self.old.store.journal) (D.may_leave disk.old) was j
             → Leaves D.moment D.left_since disk.old disk.new (kept_of self.new.store.journal) (D.may_leave disk.new) now j
-            (Finished O.adding O.tearing (record { key = self.old.press.key; own = self.new.machine.state.devices.own }) (record { journal = j; batch = self.old.store.batch.parts; machine = self.old.machine.state }) (outs_made self.old.machine.state self.old.outs) (rows_of self.old.kept) (rows_of self.new.kept) self.new.store.batch.parts self.new.machine.state (record { disk_before = D.faults disk.old; disk_after = D.faults disk.new; outlet_before = O.faults outlet.old; outlet_after = O.faults outlet.new }) (O.held outlet.old) (O.held outlet.new) result)) }
+            (Finished O.adding O.tearing (record { key = self.old.press.key; own = self.new.machine.state.devices.own }) (record { journal = j; batch = self.old.store.batch.parts; machine = self.old.machine.state }) (outs_made self.old.machine.state self.old.outs) (aside_of self.old.kept self.old.machine) (aside_of self.new.kept self.new.machine) self.new.store.batch.parts self.new.machine.state (record { disk_before = D.faults disk.old; disk_after = D.faults disk.new; outlet_before = O.faults outlet.old; outlet_after = O.faults outlet.new }) (O.held outlet.old) (O.held outlet.new) result)) }
         ensures open { OnOk result (IsOpen (kept_of self.new.store.journal) self.new.store.batch) }
         ensures quiet { OnOk result (AreQuiet self.new.store.batch.parts) }
         ensures small { OnOk result (is_large_lem self.new.store.batch.parts ≡ false) }
@@ -71,6 +71,7 @@ impl Desk {
         ensures same { IsSame (kept_of self.old.store.journal) (kept_of self.new.store.journal) }
         ensures disk_faults { DiskCounts (D.faults disk.old) (D.faults disk.new) result }
         ensures outlet_faults { OutletCounts (O.faults outlet.old) (O.faults outlet.new) result }
+        ensures run { OnOutlet result ((kept_of self.new.store.journal).stop ≡ None) }
         ensures loan { O.loan outlet.new ≡ O.loan outlet.old }
     {
         has_numbers(&self.store);

@@ -13,7 +13,7 @@ ghost use Rattle.record_model.specs.Recording.{is_none};
 ghost use Rattle.record_parts.specs.Outs.{auth_by};
 ghost use Rattle.record_store.specs.Open.{IsSame};
 ghost use Rattle.record_turn.specs.Desk.{HasDisk, IsReady, rows_of};
-ghost use Rattle.record_turn.specs.Leaves.{DiskCounts, IsPlainSeal, Leaves, OutletCounts, Seals};
+ghost use Rattle.record_turn.specs.Leaves.{DiskCounts, IsPlainSeal, Leaves, OnOutlet, OutletCounts, Seals};
 
 use crate::desk::Desk;
 use avm_outside::{Disk, Failed, Outlet};
@@ -63,6 +63,7 @@ impl Desk {
         ensures same { IsSame (kept_of self.old.store.journal) (kept_of self.new.store.journal) }
         ensures disk_faults { DiskCounts (D.faults disk.old) (D.faults disk.new) result }
         ensures outlet_faults { OutletCounts (O.faults outlet.old) (O.faults outlet.new) result }
+        ensures run { OnOutlet result ((kept_of self.new.store.journal).stop ≡ None) }
         ensures loan { O.loan outlet.new ≡ O.loan outlet.old }
     {
         match last_seal(&self.store) {

@@ -1,6 +1,6 @@
 //! Inputs that release nothing: they are saved where the batch gets large.
 
-ghost use Rattle.std.specs.Prelude.{◌≡◌, ◌≤◌, ◌<◌, ◌^◌, ℕ, Some, IfOk, OnOk, length};
+ghost use Rattle.std.specs.Prelude.{◌≡◌, ◌≤◌, ◌<◌, ◌^◌, ℕ, None, Some, IfOk, OnOk, length};
 ghost use Rattle.avm_model.specs.Offer.{OfferConsole};
 ghost use Rattle.avm_outside.specs.Outside.{BothTold};
 ghost use Rattle.journal_model.specs.Journal.{JournalData};
@@ -11,7 +11,8 @@ ghost use Rattle.record_model.specs.Recording.{TakeIn, is_large as is_large_lem}
 ghost use Rattle.record_parts.specs.Outs.{AreQuiet};
 ghost use Rattle.record_store.specs.Open.{IsOpen, IsSame};
 ghost use Rattle.record_turn.specs.Desk.{HasDisk, IsReady, rows_of};
-ghost use Rattle.record_turn.specs.Leaves.{Acted, DiskCounts, IsPlain, Leaves, OutletCounts, Settled};
+ghost use Rattle.record_turn.specs.Keeping.{aside_of};
+ghost use Rattle.record_turn.specs.Leaves.{Acted, DiskCounts, IsPlain, Leaves, OnOutlet, OutletCounts, Settled};
 
 use crate::desk::Desk;
 use crate::finishing::has_numbers;
@@ -36,6 +37,7 @@ impl Desk {
         ensures same { IsSame (kept_of self.old.store.journal) (kept_of self.new.store.journal) }
         ensures disk_faults { DiskCounts (D.faults disk.old) (D.faults disk.new) result }
         ensures outlet_faults { (n : ℕ) → OutletCounts n n result }
+        ensures run { OnOutlet result ((kept_of self.new.store.journal).stop ≡ None) }
     {
         if !self.store.batch.is_large() {
             return Ok(());
@@ -60,7 +62,7 @@ impl Desk {
         requires count { self.old.machine.state.count < 2 ^ 62 }
         ensures acts { BothTold (D.seen disk.old) (D.seen disk.new) (λ was now. (j : JournalData) → IsOwn (kept_of self.old.store.journal) (D.may_leave disk.old) was j
             → Leaves D.moment D.left_since disk.old disk.new (kept_of self.new.store.journal) (D.may_leave disk.new) now j
-            (Acted O.adding O.tearing (record { key = self.old.press.key; own = self.new.machine.state.devices.own }) 0 (TakeIn (Some (OfferConsole bytes.now))) (record { journal = j; batch = self.old.store.batch.parts; machine = self.old.machine.state }) (rows_of self.old.kept) (rows_of self.new.kept) self.new.store.batch.parts self.new.machine.state (record { disk_before = D.faults disk.old; disk_after = D.faults disk.new; outlet_before = O.faults outlet.now; outlet_after = O.faults outlet.now }) (O.held outlet.now) (O.held outlet.now) result)) }
+            (Acted O.adding O.tearing (record { key = self.old.press.key; own = self.new.machine.state.devices.own }) 0 (TakeIn (Some (OfferConsole bytes.now))) (record { journal = j; batch = self.old.store.batch.parts; machine = self.old.machine.state }) (aside_of self.old.kept self.old.machine) (aside_of self.new.kept self.new.machine) self.new.store.batch.parts self.new.machine.state (record { disk_before = D.faults disk.old; disk_after = D.faults disk.new; outlet_before = O.faults outlet.now; outlet_after = O.faults outlet.now }) (O.held outlet.now) (O.held outlet.now) result)) }
         ensures ready { OnOk result (IsReady (kept_of self.new.store.journal) self.new.store.batch) }
         ensures plain { IfOk result IsPlain }
         ensures clock { self.new.machine.state.devices.clock ≡ self.old.machine.state.devices.clock }
@@ -68,6 +70,7 @@ impl Desk {
         ensures same { IsSame (kept_of self.old.store.journal) (kept_of self.new.store.journal) }
         ensures disk_faults { DiskCounts (D.faults disk.old) (D.faults disk.new) result }
         ensures outlet_faults { OutletCounts (O.faults outlet.now) (O.faults outlet.now) result }
+        ensures run { OnOutlet result ((kept_of self.new.store.journal).stop ≡ None) }
     {
         has_numbers(&self.store);
         match take_console(&mut self.store.batch, &mut self.machine, bytes) {

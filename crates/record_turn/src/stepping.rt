@@ -9,8 +9,9 @@ ghost use Rattle.jrnl_store.specs.Own.{IsOwn};
 ghost use Rattle.record_model.specs.Recording.{AnswerClock, StepOn};
 ghost use Rattle.record_model.specs.Turn.{goes_on};
 ghost use Rattle.record_store.specs.Open.{IsSame};
-ghost use Rattle.record_turn.specs.Desk.{HasDisk, IsReady, rows_of};
-ghost use Rattle.record_turn.specs.Leaves.{Acted, DiskCounts, IsPlain, Leaves, OutletCounts, Spelled};
+ghost use Rattle.record_turn.specs.Desk.{HasDisk, IsReady};
+ghost use Rattle.record_turn.specs.Keeping.{aside_of};
+ghost use Rattle.record_turn.specs.Leaves.{Acted, DiskCounts, IsPlain, Leaves, OnOutlet, OutletCounts, Spelled};
 
 use crate::desk::Desk;
 use crate::finishing::has_numbers;
@@ -36,7 +37,7 @@ impl Desk {
         requires most { until < 2 ^ 62 }
         ensures acts { BothTold (D.seen disk.old) (D.seen disk.new) (λ was now. (j : JournalData) → IsOwn (kept_of self.old.store.journal) (D.may_leave disk.old) was j
             → Leaves D.moment D.left_since disk.old disk.new (kept_of self.new.store.journal) (D.may_leave disk.new) now j
-            (Spelled O.adding O.tearing (record { key = self.old.press.key; own = self.new.machine.state.devices.own }) until (record { journal = j; batch = self.old.store.batch.parts; machine = self.old.machine.state }) (rows_of self.old.kept) (rows_of self.new.kept) self.new.store.batch.parts self.new.machine.state (record { disk_before = D.faults disk.old; disk_after = D.faults disk.new; outlet_before = O.faults outlet.old; outlet_after = O.faults outlet.new }) (O.held outlet.old) (O.held outlet.new) result)) }
+            (Spelled O.adding O.tearing (record { key = self.old.press.key; own = self.new.machine.state.devices.own }) until (record { journal = j; batch = self.old.store.batch.parts; machine = self.old.machine.state }) (aside_of self.old.kept self.old.machine) (aside_of self.new.kept self.new.machine) self.new.store.batch.parts self.new.machine.state (record { disk_before = D.faults disk.old; disk_after = D.faults disk.new; outlet_before = O.faults outlet.old; outlet_after = O.faults outlet.new }) (O.held outlet.old) (O.held outlet.new) result)) }
         ensures ready { OnOk result (IsReady (kept_of self.new.store.journal) self.new.store.batch) }
         ensures plain { IfOk result IsPlain }
         ensures clock { self.new.machine.state.devices.clock ≡ None }
@@ -44,6 +45,7 @@ impl Desk {
         ensures same { IsSame (kept_of self.old.store.journal) (kept_of self.new.store.journal) }
         ensures disk_faults { DiskCounts (D.faults disk.old) (D.faults disk.new) result }
         ensures outlet_faults { OutletCounts (O.faults outlet.old) (O.faults outlet.new) result }
+        ensures run { OnOutlet result ((kept_of self.new.store.journal).stop ≡ None) }
         ensures loan { O.loan outlet.new ≡ O.loan outlet.old }
     {
         self.outs = Outs::none();
@@ -67,7 +69,7 @@ impl Desk {
         requires count { self.old.machine.state.count < 2 ^ 62 - 1 }
         ensures acts { BothTold (D.seen disk.old) (D.seen disk.new) (λ was now. (j : JournalData) → IsOwn (kept_of self.old.store.journal) (D.may_leave disk.old) was j
             → Leaves D.moment D.left_since disk.old disk.new (kept_of self.new.store.journal) (D.may_leave disk.new) now j
-            (Acted O.adding O.tearing (record { key = self.old.press.key; own = self.new.machine.state.devices.own }) 0 StepOn (record { journal = j; batch = self.old.store.batch.parts; machine = self.old.machine.state }) (rows_of self.old.kept) (rows_of self.new.kept) self.new.store.batch.parts self.new.machine.state (record { disk_before = D.faults disk.old; disk_after = D.faults disk.new; outlet_before = O.faults outlet.old; outlet_after = O.faults outlet.new }) (O.held outlet.old) (O.held outlet.new) result)) }
+            (Acted O.adding O.tearing (record { key = self.old.press.key; own = self.new.machine.state.devices.own }) 0 StepOn (record { journal = j; batch = self.old.store.batch.parts; machine = self.old.machine.state }) (aside_of self.old.kept self.old.machine) (aside_of self.new.kept self.new.machine) self.new.store.batch.parts self.new.machine.state (record { disk_before = D.faults disk.old; disk_after = D.faults disk.new; outlet_before = O.faults outlet.old; outlet_after = O.faults outlet.new }) (O.held outlet.old) (O.held outlet.new) result)) }
         ensures ready { OnOk result (IsReady (kept_of self.new.store.journal) self.new.store.batch) }
         ensures plain { IfOk result IsPlain }
         ensures clock { self.new.machine.state.devices.clock ≡ None }
@@ -75,6 +77,7 @@ impl Desk {
         ensures same { IsSame (kept_of self.old.store.journal) (kept_of self.new.store.journal) }
         ensures disk_faults { DiskCounts (D.faults disk.old) (D.faults disk.new) result }
         ensures outlet_faults { OutletCounts (O.faults outlet.old) (O.faults outlet.new) result }
+        ensures run { OnOutlet result ((kept_of self.new.store.journal).stop ≡ None) }
         ensures loan { O.loan outlet.new ≡ O.loan outlet.old }
     {
         self.outs = Outs::none();
@@ -101,7 +104,7 @@ impl Desk {
         requires count { self.old.machine.state.count < 2 ^ 62 - 1 }
         ensures acts { BothTold (D.seen disk.old) (D.seen disk.new) (λ was now. (j : JournalData) → IsOwn (kept_of self.old.store.journal) (D.may_leave disk.old) was j
             → Leaves D.moment D.left_since disk.old disk.new (kept_of self.new.store.journal) (D.may_leave disk.new) now j
-            (Acted O.adding O.tearing (record { key = self.old.press.key; own = self.new.machine.state.devices.own }) 0 (AnswerClock value) (record { journal = j; batch = self.old.store.batch.parts; machine = self.old.machine.state }) (rows_of self.old.kept) (rows_of self.new.kept) self.new.store.batch.parts self.new.machine.state (record { disk_before = D.faults disk.old; disk_after = D.faults disk.new; outlet_before = O.faults outlet.old; outlet_after = O.faults outlet.new }) (O.held outlet.old) (O.held outlet.new) result)) }
+            (Acted O.adding O.tearing (record { key = self.old.press.key; own = self.new.machine.state.devices.own }) 0 (AnswerClock value) (record { journal = j; batch = self.old.store.batch.parts; machine = self.old.machine.state }) (aside_of self.old.kept self.old.machine) (aside_of self.new.kept self.new.machine) self.new.store.batch.parts self.new.machine.state (record { disk_before = D.faults disk.old; disk_after = D.faults disk.new; outlet_before = O.faults outlet.old; outlet_after = O.faults outlet.new }) (O.held outlet.old) (O.held outlet.new) result)) }
         ensures ready { OnOk result (IsReady (kept_of self.new.store.journal) self.new.store.batch) }
         ensures plain { IfOk result IsPlain }
         ensures clock { self.new.machine.state.devices.clock ≡ None }
@@ -109,6 +112,7 @@ impl Desk {
         ensures same { IsSame (kept_of self.old.store.journal) (kept_of self.new.store.journal) }
         ensures disk_faults { DiskCounts (D.faults disk.old) (D.faults disk.new) result }
         ensures outlet_faults { OutletCounts (O.faults outlet.old) (O.faults outlet.new) result }
+        ensures run { OnOutlet result ((kept_of self.new.store.journal).stop ≡ None) }
         ensures loan { O.loan outlet.new ≡ O.loan outlet.old }
     {
         has_numbers(&self.store);

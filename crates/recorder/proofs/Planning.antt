@@ -2,6 +2,7 @@
 use Rattle.std.proofs.Common.{◌≡◌, ℕ, ◌<◌, Bool, true, false, List, Option, Some, None, Result, Ok, refl, sym, ap, subst, arith, ne_eqb}
 use Rattle.std.specs.Prelude.{is_some}
 use Rattle.avm_model.specs.Machine.{State, asks}
+use Rattle.avm_model.specs.Memory.{RamState}
 use Rattle.avm_model.specs.declared.Status.{Status}
 use Rattle.avm_model.specs.declared.Status.TheVariants.{Running, Waiting as Waits, Halted as IsHalted}
 use Rattle.avm_outside.specs.Feed.{Event}
@@ -22,7 +23,9 @@ use Rattle.record_parts.specs.Ends.{Faults, turn_of}
 use Rattle.record_parts.specs.declared.answers.Turn.{Turn}
 use Rattle.record_parts.proofs.Ends.{rec}
 use Rattle.record_ready.specs.Ready.{IsDeskOf}
+use Rattle.record_turn.proofs.Keeps.{beside}
 use Rattle.record_turn.proofs.Told.{told_still}
+use Rattle.record_turn.specs.Keeping.{Aside}
 use Rattle.record_turn.specs.Leaves.{Acted, Leaves, Spelled}
 use Rattle.recorder.specs.Turns.{Planned}
 
@@ -68,46 +71,46 @@ running_plan s c value plan a e f h = subst (λ (x : Status). IsPlanBefore x c v
 pub goes : (s : State) (c : ℕ) → s.count < c → s.status ≡ Running → asks s ≡ false → goes_on c s ≡ true
 goes s c lt e a = rw (ne_eqb s.count c (λ (q : s.count ≡ c). omega (arith, lt, q)), a, e) refl
 
-module _ {H : Type 0} (adding : Piece → H → H) (tearing : Piece → H → H → Type 0) (who : Sender) (rows after : List KeptRow) (batch : List Part) (machine : State) (f : Faults) (old new : H) (result : Result Turn Stop) (j next : JournalData) (b flight : List Part) (s : State) where
+module _ {H : Type 0} (adding : Piece → H → H) (tearing : Piece → H → H → Type 0) (who : Sender) (aside after : Aside) (batch : List Part) (machine : State) (f : Faults) (old new : H) (result : Result Turn Stop) (j next : JournalData) (b flight : List Part) (s : State) where
   -- the step that uses a pending clock value
-  pub used_planned : is_some s.devices.clock ≡ true → Acted adding tearing who 0 StepOn (rec j b s) rows after batch machine f old new result next flight → Planned adding tearing who Over 0 (rec j b s) rows after batch machine f old new result next flight
+  pub used_planned : is_some s.devices.clock ≡ true → Acted adding tearing who 0 StepOn (rec j b s) aside after batch machine f old new result next flight → Planned adding tearing who Over 0 (rec j b s) aside after batch machine f old new result next flight
   used_planned e h = record { plan = doing 0 StepOn; plan_is = subst (λ (x : Bool). IsPlan x Over 0 s (doing 0 StepOn)) (sym e) refl; does = h }
 
   -- an event
-  pub comes_planned : (what : Event) → s.devices.clock ≡ None → Acted adding tearing who 0 (act_of what) (rec j b s) rows after batch machine f old new result next flight → Planned adding tearing who (Comes what) 0 (rec j b s) rows after batch machine f old new result next flight
+  pub comes_planned : (what : Event) → s.devices.clock ≡ None → Acted adding tearing who 0 (act_of what) (rec j b s) aside after batch machine f old new result next flight → Planned adding tearing who (Comes what) 0 (rec j b s) aside after batch machine f old new result next flight
   comes_planned what e h = record { plan = doing 0 (act_of what); plan_is = unasked s (Comes what) 0 (doing 0 (act_of what)) e refl; does = h }
 
   -- a clock value
-  pub asked_planned : (c value : ℕ) → s.devices.clock ≡ None → s.status ≡ Running → asks s ≡ true → Acted adding tearing who 0 (AnswerClock value) (rec j b s) rows after batch machine f old new result next flight
-      → Planned adding tearing who (Later c) value (rec j b s) rows after batch machine f old new result next flight
+  pub asked_planned : (c value : ℕ) → s.devices.clock ≡ None → s.status ≡ Running → asks s ≡ true → Acted adding tearing who 0 (AnswerClock value) (rec j b s) aside after batch machine f old new result next flight
+      → Planned adding tearing who (Later c) value (rec j b s) aside after batch machine f old new result next flight
   asked_planned c value e r a h = record { plan = doing 0 (AnswerClock value); plan_is = unasked s (Later c) value (doing 0 (AnswerClock value)) e (running_plan s c value (doing 0 (AnswerClock value)) true r a refl); does = h }
 
   -- steps
-  pub steps_planned : (c value : ℕ) → s.devices.clock ≡ None → s.status ≡ Running → asks s ≡ false → Spelled adding tearing who c (rec j b s) rows after batch machine f old new result next flight → Planned adding tearing who (Later c) value (rec j b s) rows after batch machine f old new result next flight
+  pub steps_planned : (c value : ℕ) → s.devices.clock ≡ None → s.status ≡ Running → asks s ≡ false → Spelled adding tearing who c (rec j b s) aside after batch machine f old new result next flight → Planned adding tearing who (Later c) value (rec j b s) aside after batch machine f old new result next flight
   steps_planned c value e r a h = record { plan = doing h.quiet StepOn; plan_is = unasked s (Later c) value (doing h.quiet StepOn) e (running_plan s c value (doing h.quiet StepOn) false r a (h.quiet, h.spell, refl)); does = h.acted }
 
 -- nothing to do
-module _ {D H : Type 0} (moment : D → ℕ) (left_since : D → ℕ → List ℕ → Type 0) (seen : D → Option (List ℕ)) (images : D → List ℕ → Type 0) (only : (d : D) (c : List ℕ) → left_since d (moment d) c → images d c) (disk : D) (k : Kept) (run : k.stop ≡ None) (adding : Piece → H → H) (tearing : Piece → H → H → Type 0) (who : Sender) (rows : List KeptRow) (f : Faults) (held : H) (b : List Part) (s : State) (free : s.devices.clock ≡ None) where
+module _ {D H : Type 0} (moment : D → ℕ) (left_since : D → ℕ → List ℕ → Type 0) (seen : D → Option (List ℕ)) (images : D → List ℕ → Type 0) (only : (d : D) (c : List ℕ) → left_since d (moment d) c → images d c) (disk : D) (k : Kept) (run : k.stop ≡ None) (adding : Piece → H → H) (tearing : Piece → H → H → Type 0) (who : Sender) (rows : List KeptRow) (ram : RamState) (f : Faults) (held : H) (b : List Part) (s : State) (free : s.devices.clock ≡ None) where
   idle_told : (gift : Gift) (value : ℕ) (idle : Answer) → IsPlanOf gift value s (idling idle)
-      → BothTold (seen disk) (seen disk) (λ was now. (j : JournalData) → IsDeskOf k rows (images disk) was j → Leaves moment left_since disk disk k (images disk) now j (Planned adding tearing who gift value (rec j b s) rows rows b s f held held (Ok (turn_of idle))))
+      → BothTold (seen disk) (seen disk) (λ was now. (j : JournalData) → IsDeskOf k rows (images disk) was j → Leaves moment left_since disk disk k (images disk) now j (Planned adding tearing who gift value (rec j b s) (beside rows ram) (beside rows ram) b s f held held (Ok (turn_of idle))))
   idle_told gift value idle is =
-      let P = λ (j next : JournalData) (flight : List Part). Planned adding tearing who gift value (rec j b s) rows rows b s f held held (Ok (turn_of idle)) next flight in
+      let P = λ (j next : JournalData) (flight : List Part). Planned adding tearing who gift value (rec j b s) (beside rows ram) (beside rows ram) b s f held held (Ok (turn_of idle)) next flight in
       desk_told moment left_since seen images disk disk k k rows P P
       (told_still moment left_since seen images only disk k P run (λ j was own. (
         b,
         record {
           plan = idling idle;
           plan_is = unasked s gift value (idling idle) free is;
-          does = record { answer = refl; journal = refl; batch_is = refl; machine_is = refl; rows_are = refl; held = refl };
+          does = record { answer = refl; journal = refl; batch_is = refl; machine_is = refl; aside_is = refl; in_flight = refl; held = refl };
         },
       )))
       (λ j next flight h. h)
 
-  pub over_told : BothTold (seen disk) (seen disk) (λ was now. (j : JournalData) → IsDeskOf k rows (images disk) was j → Leaves moment left_since disk disk k (images disk) now j (Planned adding tearing who Over 0 (rec j b s) rows rows b s f held held (Ok (turn_of End))))
+  pub over_told : BothTold (seen disk) (seen disk) (λ was now. (j : JournalData) → IsDeskOf k rows (images disk) was j → Leaves moment left_since disk disk k (images disk) now j (Planned adding tearing who Over 0 (rec j b s) (beside rows ram) (beside rows ram) b s f held held (Ok (turn_of End))))
   over_told = idle_told Over 0 End refl
 
-  pub waits_told : (c value : ℕ) → s.status ≡ Waits → BothTold (seen disk) (seen disk) (λ was now. (j : JournalData) → IsDeskOf k rows (images disk) was j → Leaves moment left_since disk disk k (images disk) now j (Planned adding tearing who (Later c) value (rec j b s) rows rows b s f held held (Ok (turn_of Waiting))))
+  pub waits_told : (c value : ℕ) → s.status ≡ Waits → BothTold (seen disk) (seen disk) (λ was now. (j : JournalData) → IsDeskOf k rows (images disk) was j → Leaves moment left_since disk disk k (images disk) now j (Planned adding tearing who (Later c) value (rec j b s) (beside rows ram) (beside rows ram) b s f held held (Ok (turn_of Waiting))))
   waits_told c value e = idle_told (Later c) value Waiting (rw e refl)
 
-  pub halted_told : (c value : ℕ) → s.status ≡ IsHalted → BothTold (seen disk) (seen disk) (λ was now. (j : JournalData) → IsDeskOf k rows (images disk) was j → Leaves moment left_since disk disk k (images disk) now j (Planned adding tearing who (Later c) value (rec j b s) rows rows b s f held held (Ok (turn_of Halted))))
+  pub halted_told : (c value : ℕ) → s.status ≡ IsHalted → BothTold (seen disk) (seen disk) (λ was now. (j : JournalData) → IsDeskOf k rows (images disk) was j → Leaves moment left_since disk disk k (images disk) now j (Planned adding tearing who (Later c) value (rec j b s) (beside rows ram) (beside rows ram) b s f held held (Ok (turn_of Halted))))
   halted_told c value e = idle_told (Later c) value Halted (rw e refl)

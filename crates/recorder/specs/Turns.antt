@@ -12,7 +12,6 @@ use Rattle.journal_model.specs.Journal.{JournalData}
 use Rattle.journal_model.specs.Part.{Part}
 use Rattle.jrnl_store.specs.declared.fault.Stop.{Stop}
 use Rattle.jrnl_store.specs.declared.fault.Stop.TheVariants.{LeavesSpent, Full, DiskFault, OutletFault, FeedFault}
-use Rattle.record_kept.specs.declared.kept.KeptRow.{KeptRow}
 use Rattle.record_model.specs.Recorded.{act_of}
 use Rattle.record_model.specs.Recording.{Act, AnswerClock, Recording, StepOn}
 use Rattle.record_model.specs.Released.{Sender}
@@ -22,6 +21,7 @@ use Rattle.record_parts.specs.declared.answers.Sealed.{Sealed}
 use Rattle.record_parts.specs.declared.answers.Sealed.TheVariants.{Stopped as SealStopped}
 use Rattle.record_parts.specs.declared.answers.Turn.{Turn}
 use Rattle.record_parts.specs.declared.answers.Turn.TheVariants.{Stopped}
+use Rattle.record_turn.specs.Keeping.{Aside}
 use Rattle.record_turn.specs.Leaves.{Acted}
 
 -- ---- what the feed gave
@@ -88,24 +88,25 @@ pub record FeedsLater (s : State) (c value : ℕ) (old new : Agenda) : Type 0 wh
 -- ---- what is done
 
 -- nothing: all stays, and the plan's answer is given
-pub record Idle {H : Type 0} (idle : Answer) (before : Recording) (rows after_rows : List KeptRow) (batch : List Part) (machine : State) (old new : H) (result : Result Turn Stop) (next : JournalData) : Type 0 where
+pub record Idle {H : Type 0} (idle : Answer) (before : Recording) (aside after_aside : Aside) (batch : List Part) (machine : State) (old new : H) (result : Result Turn Stop) (next : JournalData) (flight : List Part) : Type 0 where
   pub answer : result ≡ Ok (turn_of idle)
   pub journal : next ≡ before.journal
   pub batch_is : batch ≡ before.batch
   pub machine_is : machine ≡ before.machine
-  pub rows_are : after_rows ≡ rows
+  pub aside_is : after_aside ≡ aside
+  pub in_flight : flight ≡ before.batch
   pub held : new ≡ old
 
 -- the plan's act, or nothing
-abbrev pub Does : {H : Type 0} → (Piece → H → H) → (Piece → H → H → Type 0) → Sender → Plan → Option Act → Recording → List KeptRow → List KeptRow → List Part → State → Faults → H → H → Result Turn Stop → JournalData → List Part → Type 0
-Does adding tearing who plan None before rows after_rows batch machine f old new result next flight = Idle plan.idle before rows after_rows batch machine old new result next
-Does adding tearing who plan (Some act) before rows after_rows batch machine f old new result next flight = Acted adding tearing who plan.quiet act before rows after_rows batch machine f old new result next flight
+abbrev pub Does : {H : Type 0} → (Piece → H → H) → (Piece → H → H → Type 0) → Sender → Plan → Option Act → Recording → Aside → Aside → List Part → State → Faults → H → H → Result Turn Stop → JournalData → List Part → Type 0
+Does adding tearing who plan None before aside after_aside batch machine f old new result next flight = Idle plan.idle before aside after_aside batch machine old new result next flight
+Does adding tearing who plan (Some act) before aside after_aside batch machine f old new result next flight = Acted adding tearing who plan.quiet act before aside after_aside batch machine f old new result next flight
 
 -- a turn by what the feed gave: its plan, and what is done by it
-pub record Planned {H : Type 0} (adding : Piece → H → H) (tearing : Piece → H → H → Type 0) (who : Sender) (gift : Gift) (value : ℕ) (before : Recording) (rows after_rows : List KeptRow) (batch : List Part) (machine : State) (f : Faults) (old new : H) (result : Result Turn Stop) (next : JournalData) (flight : List Part) : Type 0 where
+pub record Planned {H : Type 0} (adding : Piece → H → H) (tearing : Piece → H → H → Type 0) (who : Sender) (gift : Gift) (value : ℕ) (before : Recording) (aside after_aside : Aside) (batch : List Part) (machine : State) (f : Faults) (old new : H) (result : Result Turn Stop) (next : JournalData) (flight : List Part) : Type 0 where
   pub plan : Plan
   pub plan_is : IsPlan (is_some before.machine.devices.clock) gift value before.machine plan
-  pub does : Does adding tearing who plan plan.act before rows after_rows batch machine f old new result next flight
+  pub does : Does adding tearing who plan plan.act before aside after_aside batch machine f old new result next flight
 
 -- ---- how a turn ends
 

@@ -1,6 +1,6 @@
 //! A turn of a recorder that hasn't stopped.
 
-ghost use Rattle.std.specs.Prelude.{◌≡◌, ℕ, IfOk, OnOk, is_some};
+ghost use Rattle.std.specs.Prelude.{◌≡◌, ℕ, None, IfOk, OnOk, is_some};
 ghost use Rattle.avm_model.specs.Machine.{is_running};
 ghost use Rattle.avm_outside.specs.Outside.{BothTold};
 ghost use Rattle.journal_model.specs.Journal.{JournalData};
@@ -9,7 +9,8 @@ ghost use Rattle.record_model.specs.Turn.{Gift};
 ghost use Rattle.record_ready.specs.Ready.{IsDeskOf, IsSteady};
 ghost use Rattle.record_store.specs.Open.{IsSame};
 ghost use Rattle.record_turn.specs.Desk.{HasDisk, IsReady, rows_of};
-ghost use Rattle.record_turn.specs.Leaves.{IsPlain, Leaves};
+ghost use Rattle.record_turn.specs.Keeping.{aside_of};
+ghost use Rattle.record_turn.specs.Leaves.{IsPlain, Leaves, OnOutlet};
 ghost use Rattle.recorder.specs.Turns.{DiskStops, Feeds, FeedStops, OutletStops, Planned, UnlessFeed, WhereFeed};
 
 use crate::going::go_on;
@@ -49,7 +50,7 @@ pub fn turn_on<D: Disk, F: Feed, O: Outlet>(
     ensures turns { UnlessFeed result ((gift : Gift) × (value : ℕ) × BothTold (F.agenda feed.old) (F.agenda feed.new) (Feeds (is_some desk.old.machine.state.devices.clock) F.answer desk.old.machine.state gift value)
         × BothTold (D.seen disk.old) (D.seen disk.new) (λ was now. (j : JournalData) → IsDeskOf (kept_of desk.old.store.journal) (rows_of desk.old.kept) (D.may_leave disk.old) was j
         → Leaves D.moment D.left_since disk.old disk.new (kept_of desk.new.store.journal) (D.may_leave disk.new) now j
-        (Planned O.adding O.tearing (record { key = desk.old.press.key; own = desk.new.machine.state.devices.own }) gift value (record { journal = j; batch = desk.old.store.batch.parts; machine = desk.old.machine.state }) (rows_of desk.old.kept) (rows_of desk.new.kept) desk.new.store.batch.parts desk.new.machine.state (record { disk_before = D.faults disk.old; disk_after = D.faults disk.new; outlet_before = O.faults outlet.old; outlet_after = O.faults outlet.new }) (O.held outlet.old) (O.held outlet.new) result))) }
+        (Planned O.adding O.tearing (record { key = desk.old.press.key; own = desk.new.machine.state.devices.own }) gift value (record { journal = j; batch = desk.old.store.batch.parts; machine = desk.old.machine.state }) (aside_of desk.old.kept desk.old.machine) (aside_of desk.new.kept desk.new.machine) desk.new.store.batch.parts desk.new.machine.state (record { disk_before = D.faults disk.old; disk_after = D.faults disk.new; outlet_before = O.faults outlet.old; outlet_after = O.faults outlet.new }) (O.held outlet.old) (O.held outlet.new) result))) }
     ensures failed { WhereFeed result ((desk.new ≡ desk.old) × (disk.new ≡ disk.old) × (outlet.new ≡ outlet.old) × (F.agenda feed.new ≡ F.agenda feed.old)) }
     ensures ready { OnOk result (IsReady (kept_of desk.new.store.journal) desk.new.store.batch) }
     ensures steady { IsSteady desk.new.machine.state }
@@ -58,6 +59,7 @@ pub fn turn_on<D: Disk, F: Feed, O: Outlet>(
     ensures same { IsSame (kept_of desk.old.store.journal) (kept_of desk.new.store.journal) }
     ensures disk_faults { DiskStops result (D.faults disk.old) (D.faults disk.new) }
     ensures outlet_faults { OutletStops result (O.faults outlet.old) (O.faults outlet.new) }
+    ensures run { OnOutlet result ((kept_of desk.new.store.journal).stop ≡ None) }
     ensures feed_faults { FeedStops result (F.faults feed.old) (F.faults feed.new) }
     ensures loan { O.loan outlet.new ≡ O.loan outlet.old }
 {

@@ -8,7 +8,8 @@ ghost use Rattle.record_model.specs.Turn.{Later};
 ghost use Rattle.record_ready.specs.Ready.{IsDeskOf, IsSteady};
 ghost use Rattle.record_store.specs.Open.{IsSame};
 ghost use Rattle.record_turn.specs.Desk.{HasDisk, IsReady, rows_of};
-ghost use Rattle.record_turn.specs.Leaves.{IsPlain, Leaves};
+ghost use Rattle.record_turn.specs.Keeping.{aside_of};
+ghost use Rattle.record_turn.specs.Leaves.{IsPlain, Leaves, OnOutlet};
 ghost use Rattle.recorder.specs.Turns.{DiskStops, FeedStops, FeedsLater, OutletStops, Planned, UnlessFeed, WhereFeed};
 
 use avm_outside::{Disk, Feed, Outlet};
@@ -32,7 +33,7 @@ pub fn go_on<D: Disk, F: Feed, O: Outlet>(
     ensures turns { UnlessFeed result ((value : ℕ) × BothTold (F.agenda feed.old) (F.agenda feed.new) (FeedsLater desk.old.machine.state until value)
         × BothTold (D.seen disk.old) (D.seen disk.new) (λ was now. (j : JournalData) → IsDeskOf (kept_of desk.old.store.journal) (rows_of desk.old.kept) (D.may_leave disk.old) was j
         → Leaves D.moment D.left_since disk.old disk.new (kept_of desk.new.store.journal) (D.may_leave disk.new) now j
-        (Planned O.adding O.tearing (record { key = desk.old.press.key; own = desk.new.machine.state.devices.own }) (Later until) value (record { journal = j; batch = desk.old.store.batch.parts; machine = desk.old.machine.state }) (rows_of desk.old.kept) (rows_of desk.new.kept) desk.new.store.batch.parts desk.new.machine.state (record { disk_before = D.faults disk.old; disk_after = D.faults disk.new; outlet_before = O.faults outlet.old; outlet_after = O.faults outlet.new }) (O.held outlet.old) (O.held outlet.new) result))) }
+        (Planned O.adding O.tearing (record { key = desk.old.press.key; own = desk.new.machine.state.devices.own }) (Later until) value (record { journal = j; batch = desk.old.store.batch.parts; machine = desk.old.machine.state }) (aside_of desk.old.kept desk.old.machine) (aside_of desk.new.kept desk.new.machine) desk.new.store.batch.parts desk.new.machine.state (record { disk_before = D.faults disk.old; disk_after = D.faults disk.new; outlet_before = O.faults outlet.old; outlet_after = O.faults outlet.new }) (O.held outlet.old) (O.held outlet.new) result))) }
     ensures failed { WhereFeed result ((desk.new ≡ desk.old) × (disk.new ≡ disk.old) × (outlet.new ≡ outlet.old) × (F.agenda feed.new ≡ F.agenda feed.old)) }
     ensures ready { OnOk result (IsReady (kept_of desk.new.store.journal) desk.new.store.batch) }
     ensures steady { IsSteady desk.new.machine.state }
@@ -41,6 +42,7 @@ pub fn go_on<D: Disk, F: Feed, O: Outlet>(
     ensures same { IsSame (kept_of desk.old.store.journal) (kept_of desk.new.store.journal) }
     ensures disk_faults { DiskStops result (D.faults disk.old) (D.faults disk.new) }
     ensures outlet_faults { OutletStops result (O.faults outlet.old) (O.faults outlet.new) }
+    ensures run { OnOutlet result ((kept_of desk.new.store.journal).stop ≡ None) }
     ensures feed_faults { FeedStops result (F.faults feed.old) (F.faults feed.new) }
     ensures loan { O.loan outlet.new ≡ O.loan outlet.old }
 {

@@ -8,6 +8,7 @@ ghost use Rattle.recorder.specs.Recorder.{desk_of, stop_of};
 
 use crate::recorder::Recorder;
 use guest_machine::Machine;
+use lms_signer::Signer;
 use record_turn::Desk;
 
 impl Recorder {
@@ -41,5 +42,12 @@ impl Recorder {
         ensures { result ≡ (kept_of (desk_of self.now).store.journal).standing.used }
     {
         self.desk.store.journal.bound()
+    }
+
+    /// Gives the signer back. What isn't saved is dropped.
+    pub fn into_signer(self) -> Signer
+        ensures { result ≡ (desk_of self).press.key }
+    {
+        self.desk.press.into_signer()
     }
 }

@@ -12,7 +12,8 @@ ghost use Rattle.record_parts.specs.declared.answers.Turn.TheVariants.{Ended};
 ghost use Rattle.record_ready.specs.Ready.{IsDeskOf};
 ghost use Rattle.record_store.specs.Open.{IsSame};
 ghost use Rattle.record_turn.specs.Desk.{HasDisk, rows_of};
-ghost use Rattle.record_turn.specs.Leaves.{Leaves, Seals};
+ghost use Rattle.record_turn.specs.Keeping.{aside_of};
+ghost use Rattle.record_turn.specs.Leaves.{Leaves, OnOutlet, Seals};
 ghost use Rattle.recorder.specs.Recorder.{desk_of, stop_of};
 ghost use Rattle.recorder.specs.Turns.{DiskStops, Feeds, FeedStops, OutletStops, Planned, UnlessFeed, WhereFeed, result_of, seal_result, stop_behind};
 
@@ -36,7 +37,7 @@ impl Recorder {
         ensures turns { stop_of self.old ≡ None → UnlessFeed (result_of result) ((gift : Gift) × (value : ℕ) × BothTold (F.agenda feed.old) (F.agenda feed.new) (Feeds (is_some (desk_of self.old).machine.state.devices.clock) F.answer (desk_of self.old).machine.state gift value)
             × BothTold (D.seen disk.old) (D.seen disk.new) (λ was now. (j : JournalData) → IsDeskOf (kept_of (desk_of self.old).store.journal) (rows_of (desk_of self.old).kept) (D.may_leave disk.old) was j
             → Leaves D.moment D.left_since disk.old disk.new (kept_of (desk_of self.new).store.journal) (D.may_leave disk.new) now j
-            (Planned O.adding O.tearing (record { key = (desk_of self.old).press.key; own = (desk_of self.new).machine.state.devices.own }) gift value (record { journal = j; batch = (desk_of self.old).store.batch.parts; machine = (desk_of self.old).machine.state }) (rows_of (desk_of self.old).kept) (rows_of (desk_of self.new).kept) (desk_of self.new).store.batch.parts (desk_of self.new).machine.state (record { disk_before = D.faults disk.old; disk_after = D.faults disk.new; outlet_before = O.faults outlet.old; outlet_after = O.faults outlet.new }) (O.held outlet.old) (O.held outlet.new) (result_of result)))) }
+            (Planned O.adding O.tearing (record { key = (desk_of self.old).press.key; own = (desk_of self.new).machine.state.devices.own }) gift value (record { journal = j; batch = (desk_of self.old).store.batch.parts; machine = (desk_of self.old).machine.state }) (aside_of (desk_of self.old).kept (desk_of self.old).machine) (aside_of (desk_of self.new).kept (desk_of self.new).machine) (desk_of self.new).store.batch.parts (desk_of self.new).machine.state (record { disk_before = D.faults disk.old; disk_after = D.faults disk.new; outlet_before = O.faults outlet.old; outlet_after = O.faults outlet.new }) (O.held outlet.old) (O.held outlet.new) (result_of result)))) }
         ensures failed { stop_of self.old ≡ None → WhereFeed (result_of result) ((desk_of self.new ≡ desk_of self.old) × (disk.new ≡ disk.old) × (outlet.new ≡ outlet.old) × (F.agenda feed.new ≡ F.agenda feed.old)) }
         ensures ended { (stop : Stop) → stop_of self.old ≡ Some stop → (result ≡ Ended stop) × (desk_of self.new ≡ desk_of self.old) × (disk.new ≡ disk.old) × (feed.new ≡ feed.old) × (outlet.new ≡ outlet.old) }
         ensures stop { stop_of self.new ≡ stop_behind (stop_of self.old) (result_of result) }
@@ -44,6 +45,7 @@ impl Recorder {
         ensures same { IsSame (kept_of (desk_of self.old).store.journal) (kept_of (desk_of self.new).store.journal) }
         ensures disk_faults { DiskStops (result_of result) (D.faults disk.old) (D.faults disk.new) }
         ensures outlet_faults { OutletStops (result_of result) (O.faults outlet.old) (O.faults outlet.new) }
+        ensures run { OnOutlet (result_of result) ((kept_of (desk_of self.new).store.journal).stop ≡ None) }
         ensures feed_faults { FeedStops (result_of result) (F.faults feed.old) (F.faults feed.new) }
         ensures loan { O.loan outlet.new ≡ O.loan outlet.old }
     {
@@ -75,6 +77,7 @@ impl Recorder {
         ensures same { IsSame (kept_of (desk_of self.old).store.journal) (kept_of (desk_of self.new).store.journal) }
         ensures disk_faults { DiskStops (seal_result result) (D.faults disk.old) (D.faults disk.new) }
         ensures outlet_faults { OutletStops (seal_result result) (O.faults outlet.old) (O.faults outlet.new) }
+        ensures run { OnOutlet (seal_result result) ((kept_of (desk_of self.new).store.journal).stop ≡ None) }
         ensures loan { O.loan outlet.new ≡ O.loan outlet.old }
     {
         match self.stop {

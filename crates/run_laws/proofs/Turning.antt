@@ -15,7 +15,6 @@ use Rattle.avm_outside.specs.Outlet.{Piece}
 use Rattle.journal_model.specs.Journal.{JournalData}
 use Rattle.journal_model.specs.Part.{Part}
 use Rattle.journal_model.specs.Saving.{CommitRefusal, NoLeaf, NoRoom, commit_refusal}
-use Rattle.record_kept.specs.declared.kept.KeptRow.{KeptRow}
 use Rattle.record_laws.specs.Turns.{at_machine}
 use Rattle.record_laws.proofs.Moving.{later}
 use Rattle.record_laws.proofs.Turning.{over_is_end}
@@ -26,6 +25,7 @@ use Rattle.record_model.specs.Released.{Sender}
 use Rattle.record_model.specs.Turn.{Answer, Waiting as Ways, Halted as HaltedNow, End as EndNow, Comes, Gift, IsPlan, IsPlanBefore, IsPlanOf, IsPlanRunning, Later, Over, Plan, answer_for, behind_turn, doing, gift_at, gift_of, idling}
 use Rattle.record_parts.specs.Ends.{EndsAs, Faults, turn_of}
 use Rattle.record_parts.specs.declared.answers.Turn.{Turn}
+use Rattle.record_turn.specs.Keeping.{Aside}
 use Rattle.record_turn.specs.Leaves.{Acted}
 use Rattle.recorder.specs.Turns.{Does, Feeds, Idle, IsValue, Planned, act_before, act_by, act_for, behind}
 use Rattle.turn_laws.proofs.Following.{gift_is}
@@ -40,7 +40,7 @@ no_act : (plan : Plan) (turn : Answer) (other : Act) → plan ≡ idling turn �
 no_act plan turn other e h = absurd (let e' : None ≡ Some other = sym (ap (λ (q : Plan). q.act) e) ∙ h in cc e')
 
 -- the act of a plan is the one that the gift leads to
-plan_act : (pending : Bool) (g : Gift) (value : ℕ) (s : State) (plan : Plan) (act : Act) → IsPlan pending g value s plan → plan.act ≡ Some act → act_for pending g value s ≡ Some act
+pub plan_act : (pending : Bool) (g : Gift) (value : ℕ) (s : State) (plan : Plan) (act : Act) → IsPlan pending g value s plan → plan.act ≡ Some act → act_for pending g value s ≡ Some act
 plan_act true g value s plan act p h = ap Some (acts_as plan 0 StepOn act p h)
 plan_act false (Comes what) value s plan act p h = ap Some (acts_as plan 0 (act_of what) act p h)
 plan_act false (Later c) value s plan act p h = by_status s.status p
@@ -56,7 +56,7 @@ plan_act false (Later c) value s plan act p h = by_status s.status p
 plan_act false Over value s plan act p h = absurd (no_act plan EndNow act p h)
 
 -- where the act is no step, the steps in front of it are none
-quiet_none : (pending : Bool) (g : Gift) (value : ℕ) (s : State) (plan : Plan) (act : Act) → IsPlan pending g value s plan → plan.act ≡ Some act → (act ≡ StepOn → ⊥) → plan.quiet ≡ 0
+pub quiet_none : (pending : Bool) (g : Gift) (value : ℕ) (s : State) (plan : Plan) (act : Act) → IsPlan pending g value s plan → plan.act ≡ Some act → (act ≡ StepOn → ⊥) → plan.quiet ≡ 0
 quiet_none true g value s plan act p h other = ap (λ (q : Plan). q.quiet) p
 quiet_none false (Comes what) value s plan act p h other = ap (λ (q : Plan). q.quiet) p
 quiet_none false (Later c) value s plan act p h other = by_status s.status p
@@ -220,9 +220,9 @@ stopped why = Err (stop_of why)
 same_turn : (a b : Turn) → answered a ≡ answered b → a ≡ b
 same_turn a b e = cc
 
-module _ {H : Type 0} (adding : Piece → H → H) (tearing : Piece → H → H → Type 0) (who : Sender) (r : Run) (g : Gift) (value : ℕ) (rows after_rows : List KeptRow) (batch : List Part) (machine : State) (f : Faults) (old new : H) (turn : Turn) (next : JournalData) (flight : List Part) (script : Agenda) where
-  by_act : (plan : Plan) (act : Act) → plan.act ≡ Some act → r.stop ≡ None → is_large r.recording.batch ≡ false → Feeds (is_some r.recording.machine.devices.clock) answer_of r.recording.machine g value r.script script
-      → IsPlan (is_some r.recording.machine.devices.clock) g value r.recording.machine plan → Acted adding tearing who plan.quiet act r.recording rows after_rows batch machine f old new (Ok turn) next flight
+module _ {H : Type 0} (adding : Piece → H → H) (tearing : Piece → H → H → Type 0) (who : Sender) (r : Run) (g : Gift) (value : ℕ) (aside after_aside : Aside) (batch : List Part) (machine : State) (f : Faults) (old new : H) (turn : Turn) (next : JournalData) (flight : List Part) (script : Agenda) where
+  pub by_act : (plan : Plan) (act : Act) → plan.act ≡ Some act → r.stop ≡ None → is_large r.recording.batch ≡ false → Feeds (is_some r.recording.machine.devices.clock) answer_of r.recording.machine g value r.script script
+      → IsPlan (is_some r.recording.machine.devices.clock) g value r.recording.machine plan → Acted adding tearing who plan.quiet act r.recording aside after_aside batch machine f old new (Ok turn) next flight
       → Behind adding who r turn old new next batch machine script
   by_act plan act is stop small feeds plan_is a =
       let s = r.recording.machine in
@@ -258,8 +258,8 @@ module _ {H : Type 0} (adding : Piece → H → H) (tearing : Piece → H → H 
         drops = ap (λ (ds : List Drop). r.drops ++ ds) (drop_told who (record r.recording { machine = a.acts.at }) a.acts.pages plan.quiet s.count act a.acts.effect turn (λ other. ap (λ (t : State). t.count) (there other)) a.acts.effect_is a.acts.answer);
       }
 
-  by_none : (plan : Plan) → plan.act ≡ None → r.stop ≡ None → Feeds (is_some r.recording.machine.devices.clock) answer_of r.recording.machine g value r.script script
-      → IsPlan (is_some r.recording.machine.devices.clock) g value r.recording.machine plan → Idle plan.idle r.recording rows after_rows batch machine old new (Ok turn) next
+  pub by_none : (plan : Plan) → plan.act ≡ None → r.stop ≡ None → Feeds (is_some r.recording.machine.devices.clock) answer_of r.recording.machine g value r.script script
+      → IsPlan (is_some r.recording.machine.devices.clock) g value r.recording.machine plan → Idle plan.idle r.recording aside after_aside batch machine old new (Ok turn) next flight
       → Stands r turn old new next batch machine script
   by_none plan is stop feeds plan_is i =
       let s = r.recording.machine in
@@ -277,10 +277,10 @@ module _ {H : Type 0} (adding : Piece → H → H) (tearing : Piece → H → H 
       stays j b m = sym (ap (λ (x : JournalData). record { journal = x; batch = batch; machine = machine }) j ∙ ap (λ (x : List Part). record { journal = r.recording.journal; batch = x; machine = machine }) b ∙ ap (λ (x : State). record { journal = r.recording.journal; batch = r.recording.batch; machine = x }) m)
 
   pub turned : r.stop ≡ None → is_large r.recording.batch ≡ false → Feeds (is_some r.recording.machine.devices.clock) answer_of r.recording.machine g value r.script script
-      → Planned adding tearing who g value r.recording rows after_rows batch machine f old new (Ok turn) next flight → Behind adding who r turn old new next batch machine script ⊎ Stands r turn old new next batch machine script
+      → Planned adding tearing who g value r.recording aside after_aside batch machine f old new (Ok turn) next flight → Behind adding who r turn old new next batch machine script ⊎ Stands r turn old new next batch machine script
   turned stop small feeds p = go p.plan.act refl p.does
     where
-      go : (act : Option Act) → p.plan.act ≡ act → Does adding tearing who p.plan act r.recording rows after_rows batch machine f old new (Ok turn) next flight → Behind adding who r turn old new next batch machine script ⊎ Stands r turn old new next batch machine script
+      go : (act : Option Act) → p.plan.act ≡ act → Does adding tearing who p.plan act r.recording aside after_aside batch machine f old new (Ok turn) next flight → Behind adding who r turn old new next batch machine script ⊎ Stands r turn old new next batch machine script
       go (Some act) is a = inl (by_act p.plan act is stop small feeds p.plan_is a)
       go None is i = inr (by_none p.plan is stop feeds p.plan_is i)
 
@@ -310,9 +310,9 @@ not_idle : (why : CommitRefusal) (idle : Answer) → stopped why ≡ answered (t
 not_idle NoLeaf idle e = absurd (cc e)
 not_idle NoRoom idle e = absurd (cc e)
 
-module _ {H : Type 0} (adding : Piece → H → H) (tearing : Piece → H → H → Type 0) (who : Sender) (r : Run) (g : Gift) (value : ℕ) (rows after_rows : List KeptRow) (batch : List Part) (machine : State) (f : Faults) (old new : H) (why : CommitRefusal) (next : JournalData) (flight : List Part) (script : Agenda) where
-  cut_act : (plan : Plan) (act : Act) → plan.act ≡ Some act → r.stop ≡ None → is_large r.recording.batch ≡ false → Feeds (is_some r.recording.machine.devices.clock) answer_of r.recording.machine g value r.script script
-      → IsPlan (is_some r.recording.machine.devices.clock) g value r.recording.machine plan → Acted adding tearing who plan.quiet act r.recording rows after_rows batch machine f old new (stopped why) next flight
+module _ {H : Type 0} (adding : Piece → H → H) (tearing : Piece → H → H → Type 0) (who : Sender) (r : Run) (g : Gift) (value : ℕ) (aside after_aside : Aside) (batch : List Part) (machine : State) (f : Faults) (old new : H) (why : CommitRefusal) (next : JournalData) (flight : List Part) (script : Agenda) where
+  pub cut_act : (plan : Plan) (act : Act) → plan.act ≡ Some act → r.stop ≡ None → is_large r.recording.batch ≡ false → Feeds (is_some r.recording.machine.devices.clock) answer_of r.recording.machine g value r.script script
+      → IsPlan (is_some r.recording.machine.devices.clock) g value r.recording.machine plan → Acted adding tearing who plan.quiet act r.recording aside after_aside batch machine f old new (stopped why) next flight
       → StopsRun who r why old new next batch machine script
   cut_act plan act is stop small feeds plan_is a =
       let s = r.recording.machine in
@@ -346,9 +346,9 @@ module _ {H : Type 0} (adding : Piece → H → H) (tearing : Piece → H → H 
       }
 
   pub cut_turn : r.stop ≡ None → is_large r.recording.batch ≡ false → Feeds (is_some r.recording.machine.devices.clock) answer_of r.recording.machine g value r.script script
-      → Planned adding tearing who g value r.recording rows after_rows batch machine f old new (stopped why) next flight → StopsRun who r why old new next batch machine script
+      → Planned adding tearing who g value r.recording aside after_aside batch machine f old new (stopped why) next flight → StopsRun who r why old new next batch machine script
   cut_turn stop small feeds p = go p.plan.act refl p.does
     where
-      go : (act : Option Act) → p.plan.act ≡ act → Does adding tearing who p.plan act r.recording rows after_rows batch machine f old new (stopped why) next flight → StopsRun who r why old new next batch machine script
+      go : (act : Option Act) → p.plan.act ≡ act → Does adding tearing who p.plan act r.recording aside after_aside batch machine f old new (stopped why) next flight → StopsRun who r why old new next batch machine script
       go (Some act) is a = cut_act p.plan act is stop small feeds p.plan_is a
       go None is i = absurd (not_idle why p.plan.idle i.answer)

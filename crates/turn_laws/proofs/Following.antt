@@ -11,13 +11,13 @@ use Rattle.avm_outside.specs.declared.due.Due.TheVariants.{Later as DueLater, En
 use Rattle.journal_model.specs.Journal.{JournalData}
 use Rattle.journal_model.specs.Part.{Part}
 use Rattle.jrnl_store.specs.declared.fault.Stop.{Stop}
-use Rattle.record_kept.specs.declared.kept.KeptRow.{KeptRow}
 use Rattle.record_model.specs.Recording.{Act, AnswerClock, Effect, finished, is_large}
 use Rattle.record_model.specs.Released.{Sender}
 use Rattle.record_model.specs.Turn.{Comes, Gift, IsPlan, IsPlanBefore, IsPlanOf, IsPlanRunning, Later, Over, Plan, behind_turn, doing, gift_at, gift_of}
 use Rattle.record_parts.proofs.Ends.{rec}
 use Rattle.record_parts.specs.Ends.{Faults}
 use Rattle.record_parts.specs.declared.answers.Turn.{Turn}
+use Rattle.record_turn.specs.Keeping.{Aside}
 use Rattle.record_turn.specs.Leaves.{Acted}
 use Rattle.recorder.specs.Turns.{Does, Feeds, IsFirst, IsGiven, IsValue, Planned, act_before, act_by, act_for, behind, due_in}
 use Rattle.turn_laws.specs.Scripts.{ByScript}
@@ -101,10 +101,10 @@ script_left : (pending : Bool) (gift : Gift) (value : ℕ) (s : State) (p q : Ag
 script_left true gift value s p q act f e = f.left ∙ ap (λ (o : Option Act). behind true gift o p) e
 script_left false gift value s p q act f e = f.left ∙ ap (λ (o : Option Act). behind false gift o p) e ∙ ap (λ (x : Gift). behind_turn false x act p) (gift_is s gift p f.given)
 
-pub follows : (H : Type 0) (adding : Piece → H → H) (tearing : Piece → H → H → Type 0) (who : Sender) (gift : Gift) (value : ℕ) (j : JournalData) (b : List Part) (s : State) (rows after : List KeptRow) (batch : List Part) (machine : State) (f : Faults) (old new : H) (result : Result Turn Stop) (next : JournalData) (flight : List Part) (p q : Agenda) (act : Act)
-    → is_large b ≡ false → Feeds (is_some s.devices.clock) answer_of s gift value p q → (h : Planned adding tearing who gift value (rec j b s) rows after batch machine f old new result next flight) → h.plan.act ≡ Some act → ByScript adding tearing who j b p q s act (rec next batch machine) f old new result
-follows H adding tearing who gift value j b s rows after batch machine f old new result next flight p q act small fed h is =
-    let done : Acted adding tearing who h.plan.quiet act (rec j b s) rows after batch machine f old new result next flight = subst (λ (o : Option Act). Does adding tearing who h.plan o (rec j b s) rows after batch machine f old new result next flight) is h.does in
+pub follows : (H : Type 0) (adding : Piece → H → H) (tearing : Piece → H → H → Type 0) (who : Sender) (gift : Gift) (value : ℕ) (j : JournalData) (b : List Part) (s : State) (aside after : Aside) (batch : List Part) (machine : State) (f : Faults) (old new : H) (result : Result Turn Stop) (next : JournalData) (flight : List Part) (p q : Agenda) (act : Act)
+    → is_large b ≡ false → Feeds (is_some s.devices.clock) answer_of s gift value p q → (h : Planned adding tearing who gift value (rec j b s) aside after batch machine f old new result next flight) → h.plan.act ≡ Some act → ByScript adding tearing who j b p q s act (rec next batch machine) f old new result
+follows H adding tearing who gift value j b s aside after batch machine f old new result next flight p q act small fed h is =
+    let done : Acted adding tearing who h.plan.quiet act (rec j b s) aside after batch machine f old new result next flight = subst (λ (o : Option Act). Does adding tearing who h.plan o (rec j b s) aside after batch machine f old new result next flight) is h.does in
     record {
       pages = done.acts.pages;
       plan = h.plan;

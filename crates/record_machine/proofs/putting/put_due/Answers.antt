@@ -1,4 +1,4 @@
-use Rattle.std.proofs.Common.{sym, ap, subst, ◌∙◌, length, List, Bool}
+use Rattle.std.proofs.Common.{◌≡◌, sym, ap, subst, ◌∙◌, length, List, Bool, true, false}
 use Rattle.record_machine.specs.Marks.{HasMarks, used_marks}
 use Rattle.record_machine.proofs.Used.{not_due, snap_due}
 use Rattle.record_machine.proofs.putting.put_due.Goals as goal
@@ -12,3 +12,12 @@ returns-then-due-clause-value c =
 pub returns-else-due-clause-value : goal.returns-else-due-clause-value
 returns-else-due-clause-value c =
     not_due c.args.all c.args.due c.args.batch.now c.args.machine.now.state c.args.machine.now.dirty c.if-due.false
+
+pub returns-then-due-clause-head : goal.returns-then-due-clause-head
+returns-then-due-clause-head c = λ _. record { read = c.make.ensures.read; again = c.make.ensures.state }
+
+pub returns-then-due-clause-quiet : goal.returns-then-due-clause-quiet
+returns-then-due-clause-quiet c = λ no. absurd (let z : true ≡ false = sym c.if-due.true ∙ no in cc)
+
+pub returns-else-due-clause-head : goal.returns-else-due-clause-head
+returns-else-due-clause-head c = λ yes. absurd (let z : true ≡ false = sym yes ∙ c.if-due.false in cc)

@@ -7,11 +7,13 @@ use Rattle.jrnl_store.specs.declared.ticket.Ticket.{Ticket}
 use Rattle.record_model.specs.Released.{Sender}
 use Rattle.record_packets.proofs.Comings.{came_few, came_once, came_open, came_short, came_signs, came_some, recv_cut, recv_done, recv_keeps, recv_refused}
 use Rattle.record_packets.proofs.answering.acknowledge.Goals as goal
-use Rattle.record_parts.specs.Outs.{packet_by}
+use Rattle.record_parts.specs.Outs.{packet_by, ram_in}
 use Rattle.record_press.specs.Press.{PressData}
 use Rattle.record_turn.proofs.Finishes.{next_for}
 use Rattle.record_turn.proofs.Told.{told_map}
 use Rattle.record_turn.specs.Desk.{rows_of}
+use Rattle.record_parts.specs.declared.answers.Turn.{Turn}
+use Rattle.record_turn.proofs.Runs.{saves_run}
 
 pub save-requires-clause-open : goal.save-requires-clause-open
 save-requires-clause-open g c =
@@ -59,7 +61,7 @@ returns-in-Err-clause-acts g c = λ s b same came.
       next = j;
       flight = d.store.batch.parts;
       holds = r.0;
-      is = recv_refused k b d.store.batch s d.machine.state c.args.bytes.now came.ready.quiet came.takes came.fits (g.D.Disk.may_leave c.args.disk.now) was j own (next_for k (g.D.Disk.may_leave c.args.disk.now) was j b own came.ready.opens) g.O.Outlet.adding g.O.Outlet.tearing d.press.key (Option Ticket) (rows_of d.kept) c.save.new.self.batch.parts _ (g.O.Outlet.held c.args.outlet.now) c.in-Err.stop (r.1 (g.O.Outlet.faults c.args.outlet.now) (g.O.Outlet.faults c.args.outlet.now));
+      is = recv_refused k b d.store.batch s d.machine.state c.args.bytes.now came.ready.quiet came.takes came.fits (g.D.Disk.may_leave c.args.disk.now) was j own (next_for k (g.D.Disk.may_leave c.args.disk.now) was j b own came.ready.opens) g.O.Outlet.adding g.O.Outlet.tearing d.press.key (ram_in d.machine) (Option Ticket) (rows_of d.kept) c.save.new.self.batch.parts _ (g.O.Outlet.held c.args.outlet.now) c.in-Err.stop (r.1 (g.O.Outlet.faults c.args.outlet.now) (g.O.Outlet.faults c.args.outlet.now));
     })
 
 pub returns-in-Ok-clause-acts : goal.returns-in-Ok-clause-acts
@@ -78,7 +80,7 @@ returns-in-Ok-clause-acts g c = λ s b same came.
       next = _;
       flight = d.store.batch.parts;
       holds = r.0;
-      is = recv_done k b d.store.batch s d.machine.state c.args.bytes.now came.ready.quiet came.takes came.fits (g.D.Disk.may_leave c.args.disk.now) was j own next g.O.Outlet.adding g.O.Outlet.tearing d.press.key c.in-Ok-Some.field-0 (rows_of d.kept) (rows_of c.add_recv.new.self) c.save.new.self.batch.parts _ (g.O.Outlet.held c.args.outlet.now) (g.O.Outlet.held c.packet.new.self) c.sender-peer.result t (r.1 (g.O.Outlet.faults c.args.outlet.now) (g.O.Outlet.faults c.packet.new.self)) is from
+      is = recv_done k b d.store.batch s d.machine.state c.args.bytes.now came.ready.quiet came.takes came.fits (g.D.Disk.may_leave c.args.disk.now) was j own next g.O.Outlet.adding g.O.Outlet.tearing d.press.key (ram_in d.machine) c.in-Ok-Some.field-0 (rows_of d.kept) (rows_of c.add_recv.new.self) c.save.new.self.batch.parts _ (g.O.Outlet.held c.args.outlet.now) (g.O.Outlet.held c.packet.new.self) c.sender-peer.result t (r.1 (g.O.Outlet.faults c.args.outlet.now) (g.O.Outlet.faults c.packet.new.self)) is from
           (c.in-Ok.ensures.added ∙ ap (λ (x : List ℕ). g.O.Outlet.adding (packet c.sender-peer.result x) (g.O.Outlet.held c.args.outlet.now)) made)
           (recv_keeps k b d.store.batch s d.machine.state c.args.bytes.now came.ready.quiet came.takes came.fits (g.D.Disk.may_leave c.args.disk.now) was j own next (rows_of d.kept) (rows_of c.add_recv.new.self) c.sender-peer.result t is from c.add_recv.ensures.kept);
     })
@@ -99,8 +101,14 @@ returns-in-Err-packet-clause-acts g c = λ s b same came.
       next = _;
       flight = d.store.batch.parts;
       holds = r.0;
-      is = recv_cut k b d.store.batch s d.machine.state c.args.bytes.now came.ready.quiet came.takes came.fits (g.D.Disk.may_leave c.args.disk.now) was j own next g.O.Outlet.adding g.O.Outlet.tearing d.press.key c.in-Ok-Some.field-0 (rows_of d.kept) (rows_of c.add_recv.new.self) c.save.new.self.batch.parts _ (g.O.Outlet.held c.args.outlet.now) (g.O.Outlet.held c.packet.new.self) c.sender-peer.result t (r.1 (g.O.Outlet.faults c.args.outlet.now) (g.O.Outlet.faults c.packet.new.self)) is from
+      is = recv_cut k b d.store.batch s d.machine.state c.args.bytes.now came.ready.quiet came.takes came.fits (g.D.Disk.may_leave c.args.disk.now) was j own next g.O.Outlet.adding g.O.Outlet.tearing d.press.key (ram_in d.machine) c.in-Ok-Some.field-0 (rows_of d.kept) (rows_of c.add_recv.new.self) c.save.new.self.batch.parts _ (g.O.Outlet.held c.args.outlet.now) (g.O.Outlet.held c.packet.new.self) c.sender-peer.result t (r.1 (g.O.Outlet.faults c.args.outlet.now) (g.O.Outlet.faults c.packet.new.self)) is from
           (subst (λ (x : List ℕ). g.O.Outlet.tearing (packet c.sender-peer.result x) (g.O.Outlet.held c.args.outlet.now) (g.O.Outlet.held c.packet.new.self)) made c.in-Err-packet.ensures.failed)
           c.in-Err-packet.ensures.faults
           (recv_keeps k b d.store.batch s d.machine.state c.args.bytes.now came.ready.quiet came.takes came.fits (g.D.Disk.may_leave c.args.disk.now) was j own next (rows_of d.kept) (rows_of c.add_recv.new.self) c.sender-peer.result t is from c.add_recv.ensures.kept);
     })
+
+pub returns-in-Err-clause-run : goal.returns-in-Err-clause-run
+returns-in-Err-clause-run g c = saves_run (Option Ticket) Turn _ _ c.in-Err.stop _ (rw c.in-Err.is at c.save.ensures.faults)
+
+pub returns-in-Err-packet-clause-run : goal.returns-in-Err-packet-clause-run
+returns-in-Err-packet-clause-run g c = c.in-Ok-Some.ensures.open.run

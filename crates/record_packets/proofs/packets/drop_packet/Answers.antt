@@ -9,6 +9,10 @@ use Rattle.record_packets.proofs.Parcels.{acted_left, again_own, dropped_again, 
 use Rattle.record_packets.proofs.packets.drop_packet.Goals as goal
 use Rattle.record_packets.specs.declared.again.Kind.TheVariants.{Ack}
 use Rattle.record_turn.specs.Desk.{rows_of}
+use Rattle.record_turn.specs.Keeping.{aside_of}
+use Rattle.record_parts.specs.declared.answers.Turn.{Turn}
+use Rattle.jrnl_store.specs.Kept.{Kept}
+use Rattle.record_turn.proofs.Runs.{runs_anyway}
 
 pub returns-in_default-clause-acts : goal.returns-in_default-clause-acts
 returns-in_default-clause-acts g c =
@@ -16,7 +20,7 @@ returns-in_default-clause-acts g c =
     let who : Sender = record { key = d.press.key; own = d.machine.state.devices.own } in
     let none = sym c.repeater.ensures ∙ c.in_default.is in
     told_read g.D.Disk.moment g.D.Disk.left_since g.D.Disk.seen g.D.Disk.may_leave g.met.D.Disk.only_now c.args.disk.now c.args.disk.now (kept_of d.store.journal) (kept_of d.store.journal) refl (AreKeptOf (rows_of d.kept)) _ c.requires.ready.opens.run refl (λ x h. h) (omega arith) (λ t x le h. h)
-    (λ j was seen own kept. (d.store.batch.parts, dropped_again g.O.Outlet.adding g.O.Outlet.tearing who (rows_of d.kept) j d.store.batch.parts d.machine.state _ (g.O.Outlet.held c.args.outlet.now) (g.O.Outlet.held c.args.outlet.now) (packet_offer c.args.bytes.now) c.args.why [] (tt {0}) c.requires.refused (ap (λ (w : Option ℕ). again_to who j w) none) refl))
+    (λ j was seen own kept. (d.store.batch.parts, dropped_again g.O.Outlet.adding g.O.Outlet.tearing who (aside_of d.kept d.machine) j d.store.batch.parts d.machine.state _ (g.O.Outlet.held c.args.outlet.now) (g.O.Outlet.held c.args.outlet.now) (packet_offer c.args.bytes.now) c.args.why [] (tt {0}) c.requires.refused (ap (λ (w : Option ℕ). again_to who j w) none) refl))
 
 pub returns-in_default-recv_from-clause-acts : goal.returns-in_default-recv_from-clause-acts
 returns-in_default-recv_from-clause-acts g c =
@@ -27,7 +31,7 @@ returns-in_default-recv_from-clause-acts g c =
     told_read g.D.Disk.moment g.D.Disk.left_since g.D.Disk.seen g.D.Disk.may_leave g.met.D.Disk.only_now c.args.disk.now c.args.disk.now (kept_of d.store.journal) (kept_of d.store.journal) refl (AreKeptOf (rows_of d.kept)) _ c.requires.ready.opens.run refl (λ x h. h) (omega arith) (λ t x le h. h)
     (λ j was seen own kept.
     let none = ap (λ (x : Option Ticket). option_map ticket_view x) (sym c.in_default-recv_from.is) ∙ c.recv_from.ensures.value low ∙ kept.recv c.in-Some.peer low in
-    (d.store.batch.parts, dropped_again g.O.Outlet.adding g.O.Outlet.tearing who (rows_of d.kept) j d.store.batch.parts d.machine.state _ (g.O.Outlet.held c.args.outlet.now) (g.O.Outlet.held c.args.outlet.now) (packet_offer c.args.bytes.now) c.args.why [] (tt {0}) c.requires.refused (ap (λ (w : Option ℕ). again_to who j w) some ∙ none_again who j c.in-Some.peer none) refl))
+    (d.store.batch.parts, dropped_again g.O.Outlet.adding g.O.Outlet.tearing who (aside_of d.kept d.machine) j d.store.batch.parts d.machine.state _ (g.O.Outlet.held c.args.outlet.now) (g.O.Outlet.held c.args.outlet.now) (packet_offer c.args.bytes.now) c.args.why [] (tt {0}) c.requires.refused (ap (λ (w : Option ℕ). again_to who j w) some ∙ none_again who j c.in-Some.peer none) refl))
 
 pub returns-in-Ok-clause-acts : goal.returns-in-Ok-clause-acts
 returns-in-Ok-clause-acts g c =
@@ -44,8 +48,8 @@ returns-in-Ok-clause-acts g c =
     let released = some_at (g.D.Disk.seen c.args.disk.now) was _ seen (rw (c.in-Ok.is, c.own_id.ensures) at r.ensures.released) j last.entry own c.requires.ready.opens.run last.ticket last.few in
     let pieces = ap (λ (w : Option ℕ). again_to who j w) some ∙ last.pieces in (
       d.store.batch.parts,
-      acted_left g.O.Outlet.adding g.O.Outlet.tearing who _ _ (rows_of d.kept) d.store.batch r.new.store.batch s _ _ _ _ j d.store.batch.parts r.ensures.batch
-          (dropped_again g.O.Outlet.adding g.O.Outlet.tearing who (rows_of d.kept) j d.store.batch.parts s _ (g.O.Outlet.held c.args.outlet.now) (g.O.Outlet.held r.new.outlet) (packet_offer c.args.bytes.now) c.args.why _ c.in-Ok.field-0 c.requires.refused pieces released),
+      acted_left g.O.Outlet.adding g.O.Outlet.tearing who _ _ (aside_of d.kept d.machine) d.store.batch r.new.store.batch s _ _ _ _ j d.store.batch.parts r.ensures.batch
+          (dropped_again g.O.Outlet.adding g.O.Outlet.tearing who (aside_of d.kept d.machine) j d.store.batch.parts s _ (g.O.Outlet.held c.args.outlet.now) (g.O.Outlet.held r.new.outlet) (packet_offer c.args.bytes.now) c.args.why _ c.in-Ok.field-0 c.requires.refused pieces released),
     ))
 
 pub returns-in-Err-clause-acts : goal.returns-in-Err-clause-acts
@@ -63,6 +67,9 @@ returns-in-Err-clause-acts g c =
     let released = some_at (g.D.Disk.seen c.args.disk.now) was _ seen (rw c.in-Err.is at r.ensures.released) j last.entry own c.requires.ready.opens.run last.ticket last.few in
     let pieces = ap (λ (w : Option ℕ). again_to who j w) some ∙ last.pieces in (
       d.store.batch.parts,
-      acted_left g.O.Outlet.adding g.O.Outlet.tearing who _ _ (rows_of d.kept) d.store.batch r.new.store.batch s _ _ _ _ j d.store.batch.parts r.ensures.batch
-          (undropped g.O.Outlet.adding g.O.Outlet.tearing who (rows_of d.kept) j d.store.batch.parts s _ (g.O.Outlet.held c.args.outlet.now) (g.O.Outlet.held r.new.outlet) (Unit {0}) (packet_offer c.args.bytes.now) c.args.why _ c.in-Err.stop c.requires.refused pieces (again_own (Unit {0}) g.O.Outlet.adding g.O.Outlet.tearing d.press.key s.devices.own c.own_id.result c.in-Some.peer Ack last.entry _ _ _ c.in-Err.stop c.own_id.ensures released)),
+      acted_left g.O.Outlet.adding g.O.Outlet.tearing who _ _ (aside_of d.kept d.machine) d.store.batch r.new.store.batch s _ _ _ _ j d.store.batch.parts r.ensures.batch
+          (undropped g.O.Outlet.adding g.O.Outlet.tearing who (aside_of d.kept d.machine) j d.store.batch.parts s _ (g.O.Outlet.held c.args.outlet.now) (g.O.Outlet.held r.new.outlet) (Unit {0}) (packet_offer c.args.bytes.now) c.args.why _ c.in-Err.stop c.requires.refused pieces (again_own (Unit {0}) g.O.Outlet.adding g.O.Outlet.tearing d.press.key s.devices.own c.own_id.result c.in-Some.peer Ack last.entry _ _ _ c.in-Err.stop c.own_id.ensures released)),
     ))
+
+pub returns-in-Err-clause-run : goal.returns-in-Err-clause-run
+returns-in-Err-clause-run g c = runs_anyway Turn c.in-Err.stop _ (ap (λ (k : Kept). k.stop) c.release_again.ensures.journal ∙ c.requires.ready.opens.run)

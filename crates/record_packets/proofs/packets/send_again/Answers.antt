@@ -10,6 +10,10 @@ use Rattle.record_packets.proofs.Parcels.{acted_left, again_own, few_packet, res
 use Rattle.record_packets.proofs.packets.send_again.Goals as goal
 use Rattle.record_packets.specs.declared.again.Kind.TheVariants.{Data}
 use Rattle.record_turn.specs.Desk.{rows_of}
+use Rattle.record_turn.specs.Keeping.{aside_of}
+use Rattle.record_parts.specs.declared.answers.Turn.{Turn}
+use Rattle.jrnl_store.specs.Kept.{Kept}
+use Rattle.record_turn.proofs.Runs.{runs_anyway}
 
 pub returns-in_default-clause-acts : goal.returns-in_default-clause-acts
 returns-in_default-clause-acts g c =
@@ -18,7 +22,7 @@ returns-in_default-clause-acts g c =
     told_read g.D.Disk.moment g.D.Disk.left_since g.D.Disk.seen g.D.Disk.may_leave g.met.D.Disk.only_now c.args.disk.now c.args.disk.now (kept_of d.store.journal) (kept_of d.store.journal) refl (AreKeptOf (rows_of d.kept)) _ c.requires.ready.opens.run refl (λ x h. h) (omega arith) (λ t x le h. h)
     (λ j was seen own kept.
     let none = ap (λ (x : Option Ticket). option_map ticket_view x) (sym c.in_default.is) ∙ c.outstanding.ensures.value j kept in
-    (d.store.batch.parts, unsent g.O.Outlet.adding g.O.Outlet.tearing who (rows_of d.kept) j d.store.batch.parts d.machine.state _ (g.O.Outlet.held c.args.outlet.now) (g.O.Outlet.held c.args.outlet.now) c.args.peer c.why_unsent.result refl (not_found (outstanding_lem j d.machine.state c.args.peer) none) c.why_unsent.ensures))
+    (d.store.batch.parts, unsent g.O.Outlet.adding g.O.Outlet.tearing who (aside_of d.kept d.machine) j d.store.batch.parts d.machine.state _ (g.O.Outlet.held c.args.outlet.now) (g.O.Outlet.held c.args.outlet.now) c.args.peer c.why_unsent.result refl (not_found (outstanding_lem j d.machine.state c.args.peer) none) c.why_unsent.ensures))
 
 pub returns-in-Ok-clause-acts : goal.returns-in-Ok-clause-acts
 returns-in-Ok-clause-acts g c =
@@ -35,8 +39,8 @@ returns-in-Ok-clause-acts g c =
     let released = some_at (g.D.Disk.seen c.args.disk.now) was _ seen (rw (c.in-Ok.is, c.own_id.ensures) at r.ensures.released) j out.entry own c.requires.ready.opens.run out.ticket few in
     let known = ap (resend_refusal (row_of s.devices.peers c.args.peer)) out.is ∙ out.known in (
       d.store.batch.parts,
-      acted_left g.O.Outlet.adding g.O.Outlet.tearing who _ _ (rows_of d.kept) d.store.batch r.new.store.batch s _ _ _ _ j d.store.batch.parts r.ensures.batch
-          (resent g.O.Outlet.adding g.O.Outlet.tearing who (rows_of d.kept) j d.store.batch.parts s _ (g.O.Outlet.held c.args.outlet.now) (g.O.Outlet.held r.new.outlet) c.args.peer _ c.in-Ok.field-0 out.pieces known released),
+      acted_left g.O.Outlet.adding g.O.Outlet.tearing who _ _ (aside_of d.kept d.machine) d.store.batch r.new.store.batch s _ _ _ _ j d.store.batch.parts r.ensures.batch
+          (resent g.O.Outlet.adding g.O.Outlet.tearing who (aside_of d.kept d.machine) j d.store.batch.parts s _ (g.O.Outlet.held c.args.outlet.now) (g.O.Outlet.held r.new.outlet) c.args.peer _ c.in-Ok.field-0 out.pieces known released),
     ))
 
 pub returns-in-Err-clause-acts : goal.returns-in-Err-clause-acts
@@ -53,6 +57,9 @@ returns-in-Err-clause-acts g c =
     let few = few_packet who out.entry (read out.entry) c.args.peer (data_bytes (packet_of who out.entry)) refl made in
     let released = some_at (g.D.Disk.seen c.args.disk.now) was _ seen (rw c.in-Err.is at r.ensures.released) j out.entry own c.requires.ready.opens.run out.ticket few in (
       d.store.batch.parts,
-      acted_left g.O.Outlet.adding g.O.Outlet.tearing who _ _ (rows_of d.kept) d.store.batch r.new.store.batch s _ _ _ _ j d.store.batch.parts r.ensures.batch
-          (unresent g.O.Outlet.adding g.O.Outlet.tearing who (rows_of d.kept) j d.store.batch.parts s _ (g.O.Outlet.held c.args.outlet.now) (g.O.Outlet.held r.new.outlet) (Unit {0}) c.args.peer _ c.in-Err.stop out.pieces (again_own (Unit {0}) g.O.Outlet.adding g.O.Outlet.tearing d.press.key s.devices.own c.own_id.result c.args.peer Data out.entry _ _ _ c.in-Err.stop c.own_id.ensures released)),
+      acted_left g.O.Outlet.adding g.O.Outlet.tearing who _ _ (aside_of d.kept d.machine) d.store.batch r.new.store.batch s _ _ _ _ j d.store.batch.parts r.ensures.batch
+          (unresent g.O.Outlet.adding g.O.Outlet.tearing who (aside_of d.kept d.machine) j d.store.batch.parts s _ (g.O.Outlet.held c.args.outlet.now) (g.O.Outlet.held r.new.outlet) (Unit {0}) c.args.peer _ c.in-Err.stop out.pieces (again_own (Unit {0}) g.O.Outlet.adding g.O.Outlet.tearing d.press.key s.devices.own c.own_id.result c.args.peer Data out.entry _ _ _ c.in-Err.stop c.own_id.ensures released)),
     ))
+
+pub returns-in-Err-clause-run : goal.returns-in-Err-clause-run
+returns-in-Err-clause-run g c = runs_anyway Turn c.in-Err.stop _ (ap (λ (k : Kept). k.stop) c.release_again.ensures.journal ∙ c.requires.ready.opens.run)

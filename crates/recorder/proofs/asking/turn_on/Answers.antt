@@ -8,6 +8,7 @@ use Rattle.avm_outside.specs.declared.due.Due.TheVariants.{Console, Packet, Rese
 use Rattle.jrnl_store.specs.Kept.{kept as kept_of}
 use Rattle.record_model.specs.Released.{Sender}
 use Rattle.record_model.specs.Turn.{Comes, Later, Over}
+use Rattle.record_parts.specs.Outs.{ram_in}
 use Rattle.record_turn.specs.Desk.{rows_of}
 use Rattle.recorder.proofs.Feeding.{asked_at, both_same, console_is, end_told, event_told, free_fed, later_told, packet_is, pending_fed, resend_is}
 use Rattle.recorder.proofs.Planning.{comes_planned, desk_kept, desk_told, over_told, used_planned}
@@ -114,5 +115,5 @@ returns-in-Ok-End-clause-turns g c =
       Over,
       0,
       free_fed old new g.F.Feed.answer s Over 0 (is_some s.devices.clock) none (end_told old new g.F.Feed.answer s _ c.next.new.buf is (rw c.in-Ok-End.field-0-is at c.in-Ok-End.ensures.given)),
-      over_told g.D.Disk.moment g.D.Disk.left_since g.D.Disk.seen g.D.Disk.may_leave g.met.D.Disk.only_now c.args.disk.now (kept_of d.store.journal) c.requires.ready.opens.run g.O.Outlet.adding g.O.Outlet.tearing who (rows_of d.kept) _ (g.O.Outlet.held c.args.outlet.now) d.store.batch.parts s free,
+      over_told g.D.Disk.moment g.D.Disk.left_since g.D.Disk.seen g.D.Disk.may_leave g.met.D.Disk.only_now c.args.disk.now (kept_of d.store.journal) c.requires.ready.opens.run g.O.Outlet.adding g.O.Outlet.tearing who (rows_of d.kept) (ram_in d.machine) _ (g.O.Outlet.held c.args.outlet.now) d.store.batch.parts s free,
     )

@@ -1,6 +1,7 @@
 use Rattle.std.proofs.Common.{sym, ◌∙◌}
 use Rattle.jrnl_store.specs.Kept.{kept as kept_of}
 use Rattle.record_model.specs.Released.{Sender}
+use Rattle.record_parts.specs.Outs.{ram_in}
 use Rattle.record_turn.specs.Desk.{rows_of}
 use Rattle.recorder.proofs.Feeding.{both_same, clock_told, halted_fed, steps_fed, waits_fed}
 use Rattle.recorder.proofs.Planning.{asked_planned, desk_told, halted_told, steps_planned, waits_told}
@@ -16,7 +17,7 @@ returns-in-Waiting-clause-turns g c =
     let who : Sender = record { key = d.press.key; own = s.devices.own } in (
       0,
       both_same (g.F.Feed.agenda c.args.feed.now) (FeedsLater s c.args.until 0) (λ x. waits_fed s c.args.until 0 x is),
-      waits_told g.D.Disk.moment g.D.Disk.left_since g.D.Disk.seen g.D.Disk.may_leave g.met.D.Disk.only_now c.args.disk.now (kept_of d.store.journal) c.requires.ready.opens.run g.O.Outlet.adding g.O.Outlet.tearing who (rows_of d.kept) _ (g.O.Outlet.held c.args.outlet.now) d.store.batch.parts s c.requires.clock c.args.until 0 is,
+      waits_told g.D.Disk.moment g.D.Disk.left_since g.D.Disk.seen g.D.Disk.may_leave g.met.D.Disk.only_now c.args.disk.now (kept_of d.store.journal) c.requires.ready.opens.run g.O.Outlet.adding g.O.Outlet.tearing who (rows_of d.kept) (ram_in d.machine) _ (g.O.Outlet.held c.args.outlet.now) d.store.batch.parts s c.requires.clock c.args.until 0 is,
     )
 
 pub returns-in-Halted-clause-turns : goal.returns-in-Halted-clause-turns
@@ -27,7 +28,7 @@ returns-in-Halted-clause-turns g c =
     let who : Sender = record { key = d.press.key; own = s.devices.own } in (
       0,
       both_same (g.F.Feed.agenda c.args.feed.now) (FeedsLater s c.args.until 0) (λ x. halted_fed s c.args.until 0 x is),
-      halted_told g.D.Disk.moment g.D.Disk.left_since g.D.Disk.seen g.D.Disk.may_leave g.met.D.Disk.only_now c.args.disk.now (kept_of d.store.journal) c.requires.ready.opens.run g.O.Outlet.adding g.O.Outlet.tearing who (rows_of d.kept) _ (g.O.Outlet.held c.args.outlet.now) d.store.batch.parts s c.requires.clock c.args.until 0 is,
+      halted_told g.D.Disk.moment g.D.Disk.left_since g.D.Disk.seen g.D.Disk.may_leave g.met.D.Disk.only_now c.args.disk.now (kept_of d.store.journal) c.requires.ready.opens.run g.O.Outlet.adding g.O.Outlet.tearing who (rows_of d.kept) (ram_in d.machine) _ (g.O.Outlet.held c.args.outlet.now) d.store.batch.parts s c.requires.clock c.args.until 0 is,
     )
 
 pub returns-then-not-asks-clause-turns : goal.returns-then-not-asks-clause-turns

@@ -1,6 +1,7 @@
 use Rattle.std.proofs.Common.{◌≡◌, length, None, Some, arith, ap, sym, subst, refl, ◌∙◌}
 use Rattle.avm_model.specs.Machine.{State}
 use Rattle.avm_model.specs.Memory.{RamState}
+use Rattle.avm_model.specs.PageMarks.{MarksPages}
 use Rattle.avm_model.specs.Pages.{sha_hashes}
 use Rattle.avm_model.proofs.ReferenceLaws.{step_counts}
 use Rattle.page_tree.proofs.Kept.{stale_kept}
@@ -18,6 +19,8 @@ use Rattle.record_turn.proofs.Finishes.{next_for}
 use Rattle.record_turn.proofs.Steps.{answered_on, answered_stopped}
 use Rattle.record_turn.proofs.Told.{told_as}
 use Rattle.record_turn.proofs.desk.Desk.answer_clock.Goals as goal
+use Rattle.record_parts.specs.declared.answers.Turn.{Turn}
+use Rattle.record_turn.proofs.Runs.{runs_alike}
 
 pub unreachable-requires : goal.unreachable-requires
 unreachable-requires g c =
@@ -46,16 +49,22 @@ returns-in-Ok-clause-acts g c =
     let s = c.args.self.now.machine.state in
     let k = kept_of c.args.self.now.store.journal in
     let st : step_of (taken s (OfferClock c.args.value)) ≡ Some (c.step_on.new.machine.state, outs_made c.step_on.new.machine.state c.step_on.new.outs) = subst (λ (x : State). step_of x ≡ Some (c.step_on.new.machine.state, outs_made c.step_on.new.machine.state c.step_on.new.outs)) c.take_clock.ensures.taken.machine c.if-not-step_on.ensures.yes in
+    let d = c.args.self.now in
+    let ram = same_ram d.machine c.take_clock.new.machine (OfferClock c.args.value) c.take_clock.ensures.taken.machine (clock_ram s c.args.value) c.take_clock.ensures.marks in
+    let marked : MarksPages (ram_in d.machine) (ram_in c.step_on.new.machine) = subst (λ (r : RamState). MarksPages r (ram_in c.step_on.new.machine)) ram c.step_on.ensures.marks in
     told_as g.D.Disk.moment g.D.Disk.left_since g.D.Disk.seen g.D.Disk.may_leave c.args.disk.now c.finish.new.disk k (kept_of c.finish.new.self.store.journal) _ _ (rw c.in-Ok.is at c.finish.ensures.ends)
-    (λ j was own next flight h. answered_on g.O.Outlet.adding g.O.Outlet.tearing _ _ _ _ _ _ _ _ next flight c.in-Ok.field-0 j c.args.self.now.store.batch c.take_clock.new.batch s c.step_on.new.machine.state _ c.args.value (next_for k (g.D.Disk.may_leave c.args.disk.now) was j c.args.self.now.store.batch own c.requires.ready.opens) c.requires.asks c.requires.clock c.take_clock.ensures.taken.batch st h)
+    (λ j was own next flight h. answered_on g.O.Outlet.adding g.O.Outlet.tearing _ _ _ (ram_in d.machine) (ram_in c.step_on.new.machine) (ram_in c.finish.new.self.machine) marked _ _ _ _ _ next flight c.in-Ok.field-0 j c.args.self.now.store.batch c.take_clock.new.batch s c.step_on.new.machine.state _ c.args.value (next_for k (g.D.Disk.may_leave c.args.disk.now) was j c.args.self.now.store.batch own c.requires.ready.opens) c.requires.asks c.requires.clock c.take_clock.ensures.taken.batch st c.take_clock.ensures.fits h)
 
 pub returns-in-Err-clause-acts : goal.returns-in-Err-clause-acts
 returns-in-Err-clause-acts g c =
     let s = c.args.self.now.machine.state in
     let k = kept_of c.args.self.now.store.journal in
     let st : step_of (taken s (OfferClock c.args.value)) ≡ Some (c.step_on.new.machine.state, outs_made c.step_on.new.machine.state c.step_on.new.outs) = subst (λ (x : State). step_of x ≡ Some (c.step_on.new.machine.state, outs_made c.step_on.new.machine.state c.step_on.new.outs)) c.take_clock.ensures.taken.machine c.if-not-step_on.ensures.yes in
+    let d = c.args.self.now in
+    let ram = same_ram d.machine c.take_clock.new.machine (OfferClock c.args.value) c.take_clock.ensures.taken.machine (clock_ram s c.args.value) c.take_clock.ensures.marks in
+    let marked : MarksPages (ram_in d.machine) (ram_in c.step_on.new.machine) = subst (λ (r : RamState). MarksPages r (ram_in c.step_on.new.machine)) ram c.step_on.ensures.marks in
     told_as g.D.Disk.moment g.D.Disk.left_since g.D.Disk.seen g.D.Disk.may_leave c.args.disk.now c.finish.new.disk k (kept_of c.finish.new.self.store.journal) _ _ (rw c.in-Err.is at c.finish.ensures.ends)
-    (λ j was own next flight h. answered_stopped g.O.Outlet.adding g.O.Outlet.tearing _ _ _ _ _ _ _ _ next flight j c.args.self.now.store.batch c.take_clock.new.batch s c.step_on.new.machine.state _ c.args.value c.in-Err.stop (next_for k (g.D.Disk.may_leave c.args.disk.now) was j c.args.self.now.store.batch own c.requires.ready.opens) c.requires.asks c.requires.clock c.take_clock.ensures.taken.batch st h)
+    (λ j was own next flight h. answered_stopped g.O.Outlet.adding g.O.Outlet.tearing _ _ _ (ram_in d.machine) (ram_in c.step_on.new.machine) (ram_in c.finish.new.self.machine) marked _ _ _ _ _ next flight j c.args.self.now.store.batch c.take_clock.new.batch s c.step_on.new.machine.state _ c.args.value c.in-Err.stop (next_for k (g.D.Disk.may_leave c.args.disk.now) was j c.args.self.now.store.batch own c.requires.ready.opens) c.requires.asks c.requires.clock c.take_clock.ensures.taken.batch st c.take_clock.ensures.fits h)
 
 pub has_numbers-requires-clause-place : goal.has_numbers-requires-clause-place
 has_numbers-requires-clause-place g c = let z = small_size c.args.self.now.store.batch c.requires.ready.small in omega (arith, z)
@@ -102,3 +111,6 @@ pub returns-in-Err-clause-clock : goal.returns-in-Err-clause-clock
 returns-in-Err-clause-clock g c =
     let s = c.args.self.now.machine.state in
     ap (λ (x : State). x.devices.clock) c.finish.ensures.state ∙ clock_used s c.step_on.new.machine.state _ c.args.value c.requires.asks (subst (λ (x : State). step_of x ≡ Some (c.step_on.new.machine.state, outs_made c.step_on.new.machine.state c.step_on.new.outs)) (c.take_clock.ensures.taken.machine ∙ clock_taken s c.args.value) c.if-not-step_on.ensures.yes)
+
+pub returns-in-Err-clause-run : goal.returns-in-Err-clause-run
+returns-in-Err-clause-run g c = runs_alike (Unit {0}) Turn c.in-Err.stop _ (rw c.in-Err.is at c.finish.ensures.run)

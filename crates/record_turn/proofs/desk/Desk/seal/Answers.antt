@@ -8,6 +8,8 @@ use Rattle.record_turn.proofs.Seals.{seal_again_cut, seal_again_done, seal_cut_o
 use Rattle.record_turn.proofs.Told.{told_map, told_still}
 use Rattle.record_turn.specs.Desk.{rows_of}
 use Rattle.record_turn.proofs.desk.Desk.seal.Goals as goal
+use Rattle.record_parts.specs.declared.answers.Sealed.{Sealed}
+use Rattle.record_turn.proofs.Runs.{saves_run}
 
 pub add_seal-requires : goal.add_seal-requires
 add_seal-requires g c = let z = small_size c.args.self.now.store.batch c.requires.ready.small in omega (arith, z)
@@ -95,3 +97,9 @@ returns-in-Err-release_auth-clause-seals g c =
       holds = r.0;
       is = seal_cut_off g.O.Outlet.adding g.O.Outlet.tearing who k j (g.D.Disk.may_leave c.args.disk.now) was own b s (rows_of c.args.self.now.kept) _ c.in-Ok-Some.field-0 c.add_seal.new.self (ticket_view c.in-Ok-Some.ticket) c.save.new.self.batch.parts (g.O.Outlet.held c.args.outlet.now) _ due c.requires.ready.quiet c.add_seal.ensures.value r.1 t c.in-Err-release_auth.ensures.failed c.in-Err-release_auth.ensures.faults;
     })
+
+pub returns-in-Err-save-clause-run : goal.returns-in-Err-save-clause-run
+returns-in-Err-save-clause-run g c = saves_run (Option Ticket) Sealed _ _ c.in-Err-save.stop _ (rw c.in-Err-save.is at c.save.ensures.faults)
+
+pub returns-in-Err-release_auth-clause-run : goal.returns-in-Err-release_auth-clause-run
+returns-in-Err-release_auth-clause-run g c = c.in-Ok-Some.ensures.open.run

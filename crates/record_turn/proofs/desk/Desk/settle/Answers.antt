@@ -3,6 +3,9 @@ use Rattle.jrnl_store.specs.Kept.{kept as kept_of}
 use Rattle.record_turn.proofs.Batches.{none_signs, some_large}
 use Rattle.record_turn.proofs.Told.{told_map, told_still}
 use Rattle.record_turn.proofs.desk.Desk.settle.Goals as goal
+use Rattle.std.proofs.Common.{Option}
+use Rattle.jrnl_store.specs.declared.ticket.Ticket.{Ticket}
+use Rattle.record_turn.proofs.Runs.{saves_run}
 
 pub save-requires-clause-some : goal.save-requires-clause-some
 save-requires-clause-some g c = some_large c.args.self.now.store.batch.parts (sym c.is_large.ensures ∙ c.if-not-is_large.false)
@@ -24,3 +27,6 @@ pub returns-in-Err-clause-settled : goal.returns-in-Err-clause-settled
 returns-in-Err-clause-settled g c =
     told_map g.D.Disk.moment g.D.Disk.left_since g.D.Disk.seen g.D.Disk.may_leave c.args.disk.now c.save.new.disk (kept_of c.args.self.now.store.journal) (kept_of c.save.new.self.journal) _ _ (rw c.in-Err.is at c.save.ensures.saved)
     (λ j was now own r. record { next = j; flight = c.args.self.now.store.batch.parts; holds = r.0; is = (refl, refl, search rules, λ n. r.1 n n) })
+
+pub returns-in-Err-clause-run : goal.returns-in-Err-clause-run
+returns-in-Err-clause-run g c = saves_run (Option Ticket) (Unit {0}) _ _ c.in-Err.stop _ (rw c.in-Err.is at c.save.ensures.faults)

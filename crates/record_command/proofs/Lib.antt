@@ -1,0 +1,6 @@
+mod FileReads
+mod Taking
+mod Leaving
+mod Lent
+mod Opens
+mod Ending

@@ -1,0 +1,6 @@
+pub mod Advancing
+pub mod Going
+pub mod Saying
+pub mod SealLeft
+pub mod Telling
+pub mod TurnLeft
