@@ -1,0 +1,4 @@
+pub mod Ranges
+pub mod Frames
+pub mod Opening
+pub mod Accepted

@@ -1,0 +1,4 @@
+pub mod Lists
+pub mod Based
+pub mod Still
+pub mod Placed

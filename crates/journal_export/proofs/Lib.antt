@@ -1,0 +1,4 @@
+pub mod Cutting
+pub mod Surveyed
+pub mod Wrote
+pub mod Judged

@@ -1,0 +1,3 @@
+pub mod Running
+pub mod Whole
+pub mod Sought
