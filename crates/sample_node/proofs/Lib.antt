@@ -1,0 +1,3 @@
+mod Owns
+mod Seals
+mod Turns

@@ -1,0 +1,3 @@
+mod Exchanges
+mod Hearing
+mod Times
