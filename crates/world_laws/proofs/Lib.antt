@@ -1,0 +1,14 @@
+pub mod Rows
+pub mod Sending
+pub mod Counts
+pub mod Acting
+pub mod Pieces
+pub mod Happening
+pub mod Releasing
+pub mod Spelling
+pub mod Keeping
+pub mod Belonging
+pub mod Starts
+pub mod Joins
+pub mod Networks
+pub mod Tallies

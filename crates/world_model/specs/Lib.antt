@@ -1,0 +1,4 @@
+pub mod World
+pub mod Deeds
+pub mod EventView
+pub mod Lines

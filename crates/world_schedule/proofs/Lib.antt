@@ -1,0 +1,3 @@
+mod Cuts
+mod Hex
+pub mod Joining

@@ -1,0 +1,4 @@
+pub mod Schedule
+pub mod Sofar
+pub mod Read
+pub mod Readings

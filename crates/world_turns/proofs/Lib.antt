@@ -1,0 +1,4 @@
+pub mod Fitting
+pub mod Turning
+pub mod Schedules
+pub mod Fronts
