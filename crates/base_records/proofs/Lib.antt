@@ -1,0 +1,4 @@
+pub mod Gates
+pub mod Tails
+pub mod Steps
+pub mod Standing

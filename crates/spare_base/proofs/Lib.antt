@@ -1,0 +1,4 @@
+pub mod BasePut
+pub mod Pieces
+pub mod SpareKinds
+pub mod Reading
