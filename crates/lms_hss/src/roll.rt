@@ -85,6 +85,7 @@ impl Roll {
         requires own { self.old.is_ended ≡ false → IfSome (D.seen disk.old) (λ was. (r : RollData) × IsOwn self.old (D.may_leave disk.old) was r) }
         ensures answers { self.old.is_ended ≡ false → BothTold (D.seen disk.old) (D.seen disk.new) (λ was now. (r : RollData) → IsOwn self.old (D.may_leave disk.old) was r
             → EnrollAnswers self.old self.new (D.may_leave disk.new) now r bottom.now result) }
+        ensures granted { IfOk result (λ g. (g.bottom ≡ bottom.now) × (g.leaf < most_of self.old.key)) }
         ensures ends { EnrollEnds self.old self.new result }
         ensures stands { self.old.is_ended ≡ false → BothTold (D.seen disk.old) (D.seen disk.new) (λ was now. (r : RollData) → IsOwn self.old (D.may_leave disk.old) was r → IsEither r bottom.now now) }
         ensures any_moment { self.old.is_ended ≡ false → IfSome (D.seen disk.old) (λ was. (r : RollData) → IsOwn self.old (D.may_leave disk.old) was r

@@ -1,10 +1,9 @@
 -- A roll that is opened, and what it answers.
-use Rattle.std.proofs.Common.{◌≡◌, ◌≢◌, ◌⊎◌, inl, inr, ℕ, ◌<◌, false, List, length, Option, None, Some, IfSome, refl, sym, ◌∙◌, ap, subst, arith}
+use Rattle.std.proofs.Common.{◌≡◌, ◌≢◌, ◌⊎◌, inl, inr, ℕ, ◌<◌, false, List, length, Option, None, Some, IfSome, refl, sym, ◌∙◌, subst}
 use Rattle.std.specs.Prelude.{Result, Ok, Err}
 use Rattle.avm_outside.specs.Outside.{BothTold}
 use Rattle.hss_command.specs.declared.ends.End.TheVariants.{RefusedNoStore, RefusedKey, RefusedLeaves}
 use Rattle.hss_model.specs.Roll.{RollData, roll_of, most_of, with_bottom, IsBound, IsUnbound, IsEither}
-use Rattle.hss_model.proofs.Rolls.{roll_front}
 use Rattle.lms_hss.specs.Opening.{AttachAnswers}
 use Rattle.lms_hss.specs.Own.{RollState, IsOwn, EnrollAnswers}
 use Rattle.lms_hss.specs.declared.fault.RollFault.{RollFault}
@@ -59,18 +58,6 @@ binds : (w : RollState) (r : RollData) (bottom : List ℕ) (behind : List ℕ �
 binds w r bottom behind n leaf (inl p) = inl (p.0, p.1.disk)
 binds w r bottom behind n leaf (inr p) = inr (p.0, p.1, p.2, p.3.disk)
 
--- a leaf that is given is one of the key's
-within : (w : RollState) (r : RollData) (bottom was : List ℕ) (behind : List ℕ → Type 0) (n : List ℕ) (leaf : ℕ) → roll_of was ≡ Some r → Place w r bottom behind n leaf → leaf < most_of r.key
-within w r bottom was behind n leaf here (inl p) =
-    let f = roll_front was r here in
-    let few = f.1.fits.few in
-    let low = p.0.within in
-    omega (arith, few, low)
-within w r bottom was behind n leaf here (inr p) =
-    let is = p.1 in
-    let low = p.2 in
-    omega (arith, is, low)
-
 module _ (key bottom : List ℕ) (images behind : List ℕ → Type 0) (v w : RollState) where
   -- what holds of the roll that was opened, behind the call
   behind_call : (R : List ℕ → List ℕ → Type 0) (answer : Result Granted RollFault) (told mid now : Option (List ℕ)) → mid ≡ told → Opens images told (Ok v) → Answers v w bottom images behind mid now answer
@@ -85,18 +72,6 @@ module _ (key bottom : List ℕ) (images behind : List ℕ → Type 0) (v w : Ro
   pub granted_here : (g : Granted) (told mid now : Option (List ℕ)) → mid ≡ told → v.key ≡ key → Opens images told (Ok v) → Answers v w bottom images behind mid now (Ok g) → WhereTold told now (RollGrants key bottom behind g.leaf)
   granted_here g told mid now same is opened answers =
       behind_call (RollGrants key bottom behind g.leaf) (Ok g) told mid now same opened answers (λ was n r here own a. (r, (here, own.key ∙ is), binds w r bottom behind n g.leaf a.1))
-
-  -- no other key is given, and no leaf that isn't there
-  pub given_here : (R : List ℕ → List ℕ → Type 0) (g : Granted) (leaves : ℕ) (told mid now : Option (List ℕ)) → mid ≡ told → v.key ≡ key → leaves ≡ most_of key → Opens images told (Ok v) → Answers v w bottom images behind mid now (Ok g)
-      → (g.bottom ≡ bottom → g.leaf < leaves → ⊥) → WhereTold told now R
-  given_here R g leaves told mid now same is most opened answers wrong =
-      behind_call R (Ok g) told mid now same opened answers (λ was n r here own a. absurd (wrong a.0 (below was n r here own a.1)))
-    where
-      below : (was n : List ℕ) (r : RollData) → roll_of was ≡ Some r → IsOwn v images was r → Place w r bottom behind n g.leaf → g.leaf < leaves
-      below was n r here own place =
-          let low = within w r bottom was behind n g.leaf here place in
-          let keys : most_of r.key ≡ leaves = ap most_of (own.key ∙ is) ∙ sym most in
-          omega (arith, low, keys)
 
   spent : (was n : List ℕ) (r : RollData) (e : RollFault) → e ≢ roll.DiskFault → roll_of was ≡ Some r → r.key ≡ key → EnrollAnswers v w behind n r bottom (Err e) → RollRefuses key bottom behind RefusedLeaves was n
   spent was n r roll.LeavesSpent ne here is a = (r, (here, is), a.0, a.1, a.2.disk)

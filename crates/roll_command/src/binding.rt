@@ -87,7 +87,7 @@ fn enrolled<F: Files, D: Disk>(
         return say(alloc, End::RefusedFile(FileOption::Public));
     };
     let top = top_key(alloc, &file)?;
-    match grant(disk, &hss_key_of(&top), top.leaves(), &bottom)? {
+    match grant(disk, &hss_key_of(&top), &bottom)? {
         Ok(granted) => put_file(alloc, files, &top, &granted, endorse),
         Err(end) => say(alloc, end),
     }

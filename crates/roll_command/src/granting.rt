@@ -9,30 +9,14 @@ use command_parts::Fault;
 use hss_command::End;
 use lms_hss::{Granted, Roll, RollFault};
 
-// What was granted, if it is the key that was asked for, at a leaf that there is. A disk that tells nothing may have given anything,
-// and nothing else is to be signed.
-fn checked(granted: Granted, bottom: &[u8; 56], leaves: u32) -> Result<Granted, End>
-    ensures same { IfOk result (λ g. (g ≡ granted) × (g.bottom ≡ bottom.now) × (g.leaf < leaves)) }
-    ensures other { IfErr result (λ e. (e ≡ End.RefusedLeaves) × (granted.bottom ≡ bottom.now → granted.leaf < leaves → ⊥)) }
-{
-    let given = granted.bottom();
-    if given[..] == bottom[..] && granted.leaf() < leaves {
-        Ok(granted)
-    } else {
-        Err(End::RefusedLeaves)
-    }
-}
-
 /// Opens the roll of a disk, and binds a key in it: the right to sign the key at its leaf, or why there is none.
 pub fn grant<D: Disk>(
     disk: &mut D,
     top: &[u8; 60],
-    leaves: u32,
     bottom: &[u8; 56],
 ) -> Result<Result<Granted, End>, Fault>
-    requires leaves { leaves ≡ most_of top.now }
     ensures answers { IfOk result (λ a. WhereTold (D.seen disk.old) (D.seen disk.new) (GrantAnswers top.now bottom.now (D.may_leave disk.new) a)) }
-    ensures granted { IfOk result (λ a. IfOk a (λ g. (g.bottom ≡ bottom.now) × (g.leaf < leaves))) }
+    ensures granted { IfOk result (λ a. IfOk a (λ g. (g.bottom ≡ bottom.now) × (g.leaf < most_of top.now))) }
     ensures refused { IfOk result (λ a. IfErr a IsRollRefusal) }
     ensures stands { WhereTold (D.seen disk.old) (D.seen disk.new) (Stands bottom.now) }
     ensures faults { CountsDisk (D.faults disk.old) (D.faults disk.new) result }
@@ -48,7 +32,7 @@ pub fn grant<D: Disk>(
         return Ok(Err(End::RefusedKey));
     }
     match roll.enroll(disk, bottom) {
-        Ok(granted) => Ok(checked(granted, bottom, leaves)),
+        Ok(granted) => Ok(Ok(granted)),
         Err(RollFault::DiskFault) => Err(Fault::Disk),
         Err(_) => Ok(Err(End::RefusedLeaves)),
     }

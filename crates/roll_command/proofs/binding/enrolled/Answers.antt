@@ -1,5 +1,5 @@
-use Rattle.std.proofs.Common.{◌≡◌, ℕ, List, None, Some, option_map, refl, sym, ◌∙◌, ap, rules}
-use Rattle.avm_model.specs.Keys.{KeyData, key_file}
+use Rattle.std.proofs.Common.{◌≡◌, ◌<◌, ℕ, List, None, Some, option_map, refl, sym, ◌∙◌, ap, subst, rules}
+use Rattle.avm_model.specs.Keys.{KeyData, HasTypes, key_file}
 use Rattle.lms_signer.specs.Views.{key_data}
 use Rattle.hss_command.specs.Inputs.{public_key_in}
 use Rattle.hss_command.specs.declared.ends.FileOption.TheVariants.{Public}
@@ -23,8 +23,12 @@ returns-in_default-2-clause-ends g c =
       refl,
     )
 
-pub grant-requires : goal.grant-requires
-grant-requires g c = record { leaves = c.leaves.ensures.value ∙ sym (ap most_of c.hss_key_of.ensures ∙ most_is c.in_ok-top.top c.leaves.ensures.types) }
+pub put_file-requires : goal.put_file-requires
+put_file-requires g c =
+    let granted = rw c.in-Ok.is at c.in_ok-granted.ensures.granted in
+    let fits = rw c.in-Some.is at c.in_ok-file.ensures.fits in
+    let types = subst HasTypes (sym c.in_ok-top.ensures) fits.types in
+    record { leaf = subst (λ (n : ℕ). c.in-Ok.granted.leaf < n) (ap most_of c.hss_key_of.ensures ∙ most_is c.in_ok-top.top types) granted.1 }
 
 pub returns-in-Ok-clause-ends : goal.returns-in-Ok-clause-ends
 returns-in-Ok-clause-ends g c =
