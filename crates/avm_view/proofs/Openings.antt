@@ -78,7 +78,7 @@ opens_by s (Some (out count bytes)) h = absurd cc
 opens_by s (Some (send count peer number payload)) h = absurd cc
 opens_by s (Some (halt count cause value)) h = absurd cc
 
-opens_with : (s : State) (f : FrameData) → commits_to s (content_at f.kind f.content) ≡ true → Opens s (entry_of_frame f)
+pub opens_with : (s : State) (f : FrameData) → commits_to s (content_at f.kind f.content) ≡ true → Opens s (entry_of_frame f)
 unfolding entry_of_frame
 opens_with s f h = opens_by s (content_at f.kind f.content) h
 

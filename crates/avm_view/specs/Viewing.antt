@@ -1,5 +1,5 @@
 -- What a viewer shows: where it stands, and the counts of the snapshot and of the last entry.
-use Rattle.std.specs.Prelude.{◌≡◌, ℕ, ◌-◌, ◌^◌, ◌<◌, ◌≤◌, Some}
+use Rattle.std.specs.Prelude.{◌≡◌, ◌⊎◌, ℕ, ◌-◌, ◌^◌, ◌<◌, ◌≤◌, Some}
 use Rattle.avm_model.specs.Machine.{State}
 use Rattle.avm_model.specs.Reference.{Given, timed}
 use Rattle.view_model.specs.Points.{Point, point, walked, IsAt}
@@ -25,6 +25,10 @@ pub record Stands (r : Run) (v : Viewing) : Type 0 where
   pub first : v.first ≡ r.start.count
   pub last : v.last ≡ r.last
   pub high : v.point.state.count ≤ r.last
+
+-- the run hasn't this count
+abbrev pub Lacks : Run → ℕ → Type 0
+Lacks r c = (c < r.start.count) ⊎ (r.last < c)
 
 -- the run goes on from here to the last count
 pub record IsViewer (v : Inside) : Type 0 where

@@ -1,11 +1,11 @@
 -- What a viewer that was opened shows.
-use Rattle.std.proofs.Common.{◌≡◌, inl, inr, ℕ, ◌-◌, ◌≤◌, ◌&&◌, nat_le, Bool, true, false, List, Option, Some, refl, sym, ap, subst, ◌∙◌, leb-true}
-use Rattle.std.specs.Prelude.{Result, Ok, Err, map}
-use Rattle.avm_num.proofs.Numbers.{and_true}
+use Rattle.std.proofs.Common.{◌≡◌, inl, inr, ℕ, ◌-◌, ◌&&◌, nat_le, Bool, true, false, List, Option, Some, refl, sym, ap, subst, arith}
+use Rattle.std.specs.Prelude.{Result, Ok, Err, map, IfSome, IfNone, None}
+use Rattle.std.proofs.lemmas.Bool.{le-leb, lt-leb}
 use Rattle.avm_model.specs.Head.{HeadData}
 use Rattle.avm_model.specs.Machine.{State}
 use Rattle.avm_model.specs.Segment.{SegmentData, whole_segment_of}
-use Rattle.avm_view.specs.Viewing.{Viewing, viewing_from, Stands}
+use Rattle.avm_view.specs.Viewing.{Viewing, viewing_from, Stands, Lacks}
 use Rattle.command_parts.specs.Printing.{PrintsAll}
 use Rattle.command_parts.specs.declared.fault.Fault.{Fault}
 use Rattle.command_parts.specs.declared.fault.Fault.TheVariants as fault
@@ -53,12 +53,6 @@ views_in bytes v o = record { segment = o.0; head = o.1; is = o.2; can = o.3; ru
 pub start_in : (bytes : List ℕ) (v : Viewing) (o : Opened bytes v) → v.point.state ≡ (run_in bytes v o).start
 start_in bytes v o = ap (λ (w : Viewing). w.point.state) o.4
 
-pub first_in : (bytes : List ℕ) (v : Viewing) (o : Opened bytes v) → v.first ≡ (run_in bytes v o).start.count
-first_in bytes v o = ap (λ (w : Viewing). w.first) o.4
-
-pub last_in : (bytes : List ℕ) (v : Viewing) (o : Opened bytes v) → v.last ≡ (run_in bytes v o).last
-last_in bytes v o = ap (λ (w : Viewing). w.last) o.4
-
 -- ---- changes
 
 pub changes_out : (bytes : List ℕ) (v : Viewing) (address : ℕ) → Opened bytes v → in_ram v.point.state address 1 ≡ false → ChangesOutOfRange address (whole_segment_of bytes)
@@ -76,43 +70,42 @@ changes_shown bytes v address o e = record {
 
 -- ---- a state
 
-pub counted_in : (bytes : List ℕ) (v : Viewing) (c : ℕ) (b : Bool) (o : Opened bytes v) → b ≡ (nat_le v.first c && nat_le c v.last) → is_count (run_in bytes v o) c ≡ b
-counted_in bytes v c b o e =
-    sym (e ∙ ap (λ (n : ℕ). nat_le n c && nat_le c v.last) (first_in bytes v o) ∙ ap (λ (n : ℕ). nat_le (run_in bytes v o).start.count c && nat_le c n) (last_in bytes v o))
+-- a run has the counts at which a viewer stands, and no others
+counted : (r : Run) (v : Viewing) (c : ℕ) → Stands r v → v.point.state.count ≡ c → is_count r c ≡ true
+counted r v c h e = rw (le-leb r.start.count c (omega (arith, h.at.low, e)), le-leb c r.last (omega (arith, h.high, e))) refl
 
-pub count_out : (bytes : List ℕ) (v : Viewing) (a : StateAsked) → Opened bytes v → false ≡ (nat_le v.first a.count && nat_le a.count v.last) → StateOutOfRange a (whole_segment_of bytes)
-count_out bytes v a o e = (run_in bytes v o, views_in bytes v o, inl (counted_in bytes v a.count false o e))
+not_counted : (r : Run) (c : ℕ) → Lacks r c → is_count r c ≡ false
+not_counted r c (inl lt) = rw (lt-leb r.start.count c lt) refl
+not_counted r c (inr lt) = go (nat_le r.start.count c)
+  where
+    go : (b : Bool) → (b && nat_le c r.last) ≡ false
+    go true = lt-leb c r.last lt
+    go false = refl
 
-pub low_in : (bytes : List ℕ) (v : Viewing) (c : ℕ) → Opened bytes v → true ≡ (nat_le v.first c && nat_le c v.last) → v.point.state.count ≤ c
-low_in bytes v c o e =
-    let b = and_true (nat_le v.first c) (nat_le c v.last) (sym e) in
-    let first : v.point.state.count ≡ v.first = ap (λ (s : State). s.count) (start_in bytes v o) ∙ sym (first_in bytes v o) in
-    subst (λ (n : ℕ). n ≤ c) (sym first) (leb-true v.first c b.0)
+abbrev pub Found : List ℕ → ℕ → Option Viewing → Type 0
+Found bytes c found =
+    (s : SegmentData) × (h : HeadData) × (whole_segment_of bytes ≡ Some (s, h)) × CanView s h × IfSome found (λ v. Stands (run_of s h) v × (v.point.state.count ≡ c)) × IfNone found (Lacks (run_of s h) c)
 
-pub high_in : (v : Viewing) (c : ℕ) → true ≡ (nat_le v.first c && nat_le c v.last) → c ≤ v.last
-high_in v c e = leb-true c v.last (and_true (nat_le v.first c) (nat_le c v.last) (sym e)).1
+viewed : (bytes : List ℕ) (c : ℕ) (found : Option Viewing) (f : Found bytes c found) → Views (whole_segment_of bytes) (run_of f.0 f.1)
+viewed bytes c found f = record { segment = f.0; head = f.1; is = f.2; can = f.3; run = refl }
 
--- the viewer has gone on to the count
-pub record Gone (bytes : List ℕ) (v w : Viewing) (c : ℕ) : Type 0 where
-  pub opened : Opened bytes v
-  pub counted : true ≡ (nat_le v.first c && nat_le c v.last)
-  pub count : w.point.state.count ≡ c
-  pub stands : Stands (run_in bytes v opened) w
+pub count_out : (bytes : List ℕ) (a : StateAsked) → Found bytes a.count None → StateOutOfRange a (whole_segment_of bytes)
+count_out bytes a f = (run_of f.0 f.1, viewed bytes a.count None f, inl (not_counted (run_of f.0 f.1) a.count f.5))
 
-at_in : (bytes : List ℕ) (v w : Viewing) (c : ℕ) (g : Gone bytes v w c) (s : State) → At (run_in bytes v g.opened) w.point.state.count s → At (run_in bytes v g.opened) c s
-at_in bytes v w c g s at = subst (λ (n : ℕ). At (run_in bytes v g.opened) n s) g.count at
+at_in : (bytes : List ℕ) (v : Viewing) (c : ℕ) (f : Found bytes c (Some v)) (s : State) → ((r : Run) → Stands r v → At r v.point.state.count s) → At (run_of f.0 f.1) c s
+at_in bytes v c f s at = subst (λ (n : ℕ). At (run_of f.0 f.1) n s) f.4.1 (at (run_of f.0 f.1) f.4.0)
 
-pub words_out : (bytes : List ℕ) (v w : Viewing) (a : StateAsked) (s : State) (g : Gone bytes v w a.count) → At (run_in bytes v g.opened) w.point.state.count s → false ≡ in_ram s a.from a.words → StateOutOfRange a (whole_segment_of bytes)
-words_out bytes v w a s g at e = (run_in bytes v g.opened, views_in bytes v g.opened, inr (s, at_in bytes v w a.count g s at, sym e))
+pub words_out : (bytes : List ℕ) (v : Viewing) (a : StateAsked) (s : State) → Found bytes a.count (Some v) → ((r : Run) → Stands r v → At r v.point.state.count s) → false ≡ in_ram s a.from a.words → StateOutOfRange a (whole_segment_of bytes)
+words_out bytes v a s f at e = (run_of f.0 f.1, viewed bytes a.count (Some v) f, inr (s, at_in bytes v a.count f s at, sym e))
 
-pub state_shown : (bytes : List ℕ) (v w : Viewing) (a : StateAsked) (s : State) (g : Gone bytes v w a.count) → At (run_in bytes v g.opened) w.point.state.count s → true ≡ in_ram s a.from a.words
+pub state_shown : (bytes : List ℕ) (v : Viewing) (a : StateAsked) (s : State) → Found bytes a.count (Some v) → ((r : Run) → Stands r v → At r v.point.state.count s) → true ≡ in_ram s a.from a.words
     → ShowsState a (whole_segment_of bytes) (state_lines s a.from a.words)
-state_shown bytes v w a s g at e = record {
-  run = run_in bytes v g.opened;
-  views = views_in bytes v g.opened;
+state_shown bytes v a s f at e = record {
+  run = run_of f.0 f.1;
+  views = viewed bytes a.count (Some v) f;
   state = s;
-  at = at_in bytes v w a.count g s at;
-  count = counted_in bytes v a.count true g.opened g.counted;
+  at = at_in bytes v a.count f s at;
+  count = counted (run_of f.0 f.1) v a.count f.4.0 f.4.1;
   words = sym e;
   all = refl;
 }

@@ -1,11 +1,9 @@
 // What is asked of a segment is looked for, and shown.
-ghost use Rattle.std.specs.Prelude.{◌≡◌, ◌≤◌, ◌+◌, ◌*◌, ◌^◌, ◌&&◌, ℕ, List, nat_le};
+ghost use Rattle.std.specs.Prelude.{◌≡◌, ◌≤◌, ◌+◌, ◌*◌, ◌^◌, ℕ, List};
 ghost use Rattle.std.specs.Bool.{OnTrue};
 ghost use Rattle.avm_model.specs.Segment.{whole_segment_of};
 ghost use Rattle.avm_view.specs.Faults.{IsViewFault};
-ghost use Rattle.avm_view.specs.Viewing.{Stands};
 ghost use Rattle.view_command.specs.Showing.{IsRefusal, Leaves, Refuses, ShowsState, ShowsChanges, StateOutOfRange, ChangesOutOfRange, in_ram};
-ghost use Rattle.view_model.specs.Views.{Run};
 
 use crate::End;
 use crate::changing::print_changes;
@@ -36,13 +34,6 @@ fn refusal(fault: ViewFault) -> Result<End, Fault>
     }
 }
 
-/// Whether a count is one of the run.
-fn has_count(viewer: &Viewer<'_>, count: u64) -> bool
-    ensures { result ≡ (nat_le viewer.now.first count && nat_le count viewer.now.last) }
-{
-    viewer.first() <= count && count <= viewer.last()
-}
-
 /// Whether words from an address on are in the RAM of a machine.
 fn has_words(machine: &Machine, from: u32, words: u32) -> bool
     ensures value { result ≡ in_ram machine.now.state from words }
@@ -51,16 +42,6 @@ fn has_words(machine: &Machine, from: u32, words: u32) -> bool
     let end = (1 << 31) + 4096 * u64::from(machine.ram().pages());
     words == 0
         || (from % 4 == 0 && from >= 1 << 31 && u64::from(from) + 4 * u64::from(words) <= end)
-}
-
-/// Goes on to a later count.
-fn go_to(viewer: &mut Viewer<'_>, count: u64)
-    requires low { viewer.old.point.state.count ≤ count }
-    requires high { count ≤ viewer.old.last }
-    ensures count { viewer.new.point.state.count ≡ count }
-    ensures stands { (r : Run) → Stands r viewer.old → Stands r viewer.new }
-{
-    while viewer.machine().count() < count && viewer.advance() {}
 }
 
 /// Prints the state at a count of a segment's run, and words of its RAM.
@@ -72,14 +53,11 @@ pub fn show_state<S: Sink>(
 ) -> Result<End, Fault>
     ensures { Leaves (ShowsState asked.now (whole_segment_of segment.now)) (Refuses (StateOutOfRange asked.now) (whole_segment_of segment.now)) result (S.faults out.old) (S.faults out.new) (S.written out.old) (S.written out.new) }
 {
-    let mut viewer = match Viewer::open(alloc, segment) {
-        Ok(viewer) => viewer,
+    let viewer = match Viewer::open_at(alloc, segment, asked.count) {
+        Ok(Some(viewer)) => viewer,
+        Ok(None) => return Ok(End::RefusedRange),
         Err(fault) => return refusal(fault),
     };
-    if !has_count(&viewer, asked.count) {
-        return Ok(End::RefusedRange);
-    }
-    go_to(&mut viewer, asked.count);
     if !has_words(viewer.machine(), asked.from, asked.words) {
         return Ok(End::RefusedRange);
     }

@@ -1,7 +1,7 @@
 use Rattle.std.proofs.Common.{◌≡◌, ◌-◌, ◌≤◌}
 use Rattle.avm_view.specs.Viewing.{Stands}
 use Rattle.view_model.specs.Views.{Run}
-use Rattle.view_command.proofs.shown.go_to.Given as goal
+use Rattle.avm_view.proofs.viewer.go_to.Given as goal
 
 abbrev pub invariant-loop-viewer : goal.invariant-loop-viewer
 invariant-loop-viewer l = record {
