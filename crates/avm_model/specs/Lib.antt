@@ -39,7 +39,6 @@ pub mod Entries
 pub mod Segment
 pub mod SegmentPages
 pub mod Words
-pub mod Job
 pub mod Marks
 pub mod Cover
 pub mod Verdict

@@ -1,18 +1,21 @@
 -- What the status of a named job says.
-use Rattle.std.proofs.Common.{◌≡◌, ℕ, List, Option, Some, refl, sym, subst}
-use Rattle.avm_script.specs.Job.{JobData, SignedData, audit, check, enroll, format, list, narrow, rebut, roll, view_at, view_changes, widen, job_of}
+use Rattle.std.proofs.Common.{◌≡◌, ◌⊎◌, ◌≤◌, ℕ, List, Option, Some, IfSome, refl, sym, subst}
+use Rattle.avm_script.specs.Job.{JobData, SignedData, audit, check, enroll, export, format, list, narrow, rebut, record_job, roll, view_at, view_changes, widen, job_of}
 use Rattle.audit_command.specs.Meaning.{AuditMeans, CheckMeans, IsAcceptedLater}
 use Rattle.command_parts.specs.FileMap.{FileMap}
+use Rattle.export_command.specs.Meaning.{ExportMeans}
+use Rattle.export_command.specs.Outcomes.{asked}
 use Rattle.format_command.specs.Meaning.{FormatMeans}
 use Rattle.hss_command.specs.Narrow.{NarrowMeans}
 use Rattle.hss_command.specs.Widen.{WidenMeans}
 use Rattle.list_command.specs.Meaning.{ListMeans}
 use Rattle.rebut_command.specs.Meaning.{RebutMeans}
+use Rattle.record_command.specs.Meaning.{RecordMeans, StandsFrom}
 use Rattle.roll_command.specs.Enroll.{EnrollMeans}
 use Rattle.roll_command.specs.Roll.{RollMeans}
 use Rattle.view_command.specs.Meaning.{ViewMeans}
 use Rattle.view_command.specs.Showing.{ShowsState, ShowsChanges}
-use Rattle.avm_top.specs.Jobs.{MeansAs, enroll_names, format_names, state_asked}
+use Rattle.avm_top.specs.Jobs.{MeansAs, MomentsAs, enroll_names, format_names, record_files, state_asked}
 use Rattle.avm_top.proofs.Names.{audit_names}
 
 means_of : (job own : Option JobData) (old new : FileMap) (was is : Option (List ℕ)) (images : List ℕ → Type 0) (before after : Option (List ℕ)) (result : ℕ) → own ≡ job → MeansAs job old new was is images before after result → MeansAs own old new was is images before after result
@@ -29,6 +32,17 @@ format_means job old new was is images before after result means store key confi
 
 pub list_means : (job : Option JobData) (old new : FileMap) (was is : Option (List ℕ)) (images : List ℕ → Type 0) (before after : Option (List ℕ)) (result : ℕ) → MeansAs job old new was is images before after result → (store : List ℕ) → Some (list store) ≡ job → ListMeans was before after result
 list_means job old new was is images before after result means store is_it = means_of job (Some (list store)) old new was is images before after result is_it means
+
+pub record_means : (job : Option JobData) (old new : FileMap) (was is : Option (List ℕ)) (images : List ℕ → Type 0) (before after : Option (List ℕ)) (result : ℕ) → MeansAs job old new was is images before after result → (store key script packets console auths : List ℕ) → Some (record_job store key script packets console auths) ≡ job → RecordMeans (record_files key script packets console auths) old new was is images before after result
+record_means job old new was is images before after result means store key script packets console auths is_it = means_of job (Some (record_job store key script packets console auths)) old new was is images before after result is_it means
+
+-- what a crash at any moment of a recording leaves
+pub recorded : (job : Option JobData) (files : FileMap) (was : Option (List ℕ)) (moment : ℕ) (before after : ℕ → List ℕ → Type 0) → MomentsAs job files was moment before after → (store key script packets console auths : List ℕ) → Some (record_job store key script packets console auths) ≡ job
+    → IfSome was (λ w. (t : ℕ) (c : List ℕ) → t ≤ moment → after t c → before t c ⊎ StandsFrom (record_files key script packets console auths) files w c)
+recorded job files was moment before after left store key script packets console auths is_it = subst (λ (j : Option JobData). MomentsAs j files was moment before after) (sym is_it) left
+
+pub export_means : (job : Option JobData) (old new : FileMap) (was is : Option (List ℕ)) (images : List ℕ → Type 0) (before after : Option (List ℕ)) (result : ℕ) → MeansAs job old new was is images before after result → (store : List ℕ) (from to : ℕ) (segment : List ℕ) → Some (export store from to segment) ≡ job → ExportMeans (asked from to segment) was old new result
+export_means job old new was is images before after result means store from to segment is_it = means_of job (Some (export store from to segment)) old new was is images before after result is_it means
 
 pub rebut_means : (job : Option JobData) (old new : FileMap) (was is : Option (List ℕ)) (images : List ℕ → Type 0) (before after : Option (List ℕ)) (result : ℕ) → MeansAs job old new was is images before after result → (store evidence : List ℕ) → Some (rebut store evidence) ≡ job → RebutMeans (old evidence) was before after result
 rebut_means job old new was is images before after result means store evidence is_it = means_of job (Some (rebut store evidence)) old new was is images before after result is_it means

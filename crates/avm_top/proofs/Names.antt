@@ -168,8 +168,8 @@ narrow_names words key auths public into is = subst (λ (o : Option JobData). If
 unused : (words : List (List ℕ)) (j : JobData) → Fits words j → needed (codes "--store") words ≡ None → uses_disk (Some j) ≡ false
 unused words (keygen height w id seed key public) fits none = refl
 unused words (format store key config image) fits none = let no : ◌≡◌ {A = Option (List ℕ)} (Some store) None = sym fits ∙ none in absurd cc
-unused words (record_job store key script packets console auths) fits none = refl
-unused words (export store from to segment) fits none = refl
+unused words (record_job store key script packets console auths) fits none = let no : ◌≡◌ {A = Option (List ℕ)} (Some store) None = sym fits ∙ none in absurd cc
+unused words (export store from to segment) fits none = let no : ◌≡◌ {A = Option (List ℕ)} (Some store) None = sym fits ∙ none in absurd cc
 unused words (audit segment image signed) fits none = refl
 unused words (check key evidence) fits none = refl
 unused words (rebut store evidence) fits none = let no : ◌≡◌ {A = Option (List ℕ)} (Some store) None = sym fits ∙ none in absurd cc

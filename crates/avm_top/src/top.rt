@@ -1,30 +1,35 @@
 // The top call: what the words ask for is done by the command's crate.
-ghost use Rattle.std.specs.Prelude.{◌≡◌, ◌≢◌, ◌⊎◌, ◌≤◌, ℕ, List, Option, None, Some, false, map, string_bytes};
-ghost use Rattle.avm_script.specs.Job.{SignedData, audit as audit_job, check as check_job, enroll as enroll_job, format as format_job, list as list_job, narrow as narrow_job, rebut as rebut_job, roll as roll_job, view_at as view_at_job, view_changes as view_changes_job, widen as widen_job, job_of, store_of};
+ghost use Rattle.std.specs.Prelude.{◌≡◌, ◌≢◌, ◌⊎◌, ◌≤◌, ℕ, List, Option, None, Some, IfSome, false, map, string_bytes};
+ghost use Rattle.avm_script.specs.Job.{SignedData, audit as audit_job, check as check_job, enroll as enroll_job, export as export_job, format as format_job, list as list_job, narrow as narrow_job, record_job, rebut as rebut_job, roll as roll_job, view_at as view_at_job, view_changes as view_changes_job, widen as widen_job, job_of, store_of};
 ghost use Rattle.avm_outside.specs.Outside.{Rises};
 ghost use Rattle.audit_command.specs.Audit.{IsNoneOf};
 ghost use Rattle.audit_command.specs.Meaning.{AuditMeans, CheckMeans, IsAcceptedLater};
+ghost use Rattle.export_command.specs.Meaning.{ExportMeans};
+ghost use Rattle.export_command.specs.Outcomes.{asked};
 ghost use Rattle.format_command.specs.Meaning.{FormatMeans};
 ghost use Rattle.headline.specs.Headline.{HeadlineMeans};
 ghost use Rattle.hss_command.specs.Narrow.{NarrowMeans};
 ghost use Rattle.hss_command.specs.Widen.{WidenMeans};
 ghost use Rattle.list_command.specs.Meaning.{ListMeans};
 ghost use Rattle.rebut_command.specs.Meaning.{RebutMeans};
+ghost use Rattle.record_command.specs.Meaning.{RecordMeans, StandsFrom};
 ghost use Rattle.roll_command.specs.Enroll.{EnrollMeans};
 ghost use Rattle.roll_command.specs.Roll.{RollMeans};
 ghost use Rattle.view_command.specs.Meaning.{ViewMeans};
 ghost use Rattle.view_command.specs.Showing.{ShowsState, ShowsChanges};
-ghost use Rattle.avm_top.specs.Jobs.{RunsAs, MeansAs, enroll_names, format_names, state_asked, uses_disk, writes_disk, written_by};
+ghost use Rattle.avm_top.specs.Jobs.{RunsAs, MeansAs, MomentsAs, enroll_names, format_names, record_files, state_asked, uses_disk, writes_disk, written_by};
 
 use crate::refusing::{refuse_unbuilt, refuse_words};
 use audit_command::{audit, check};
 use avm_outside::{Disk, Files, Sink};
 use avm_script::{BadWords, Job, job};
+use export_command::export;
 use format_command::format;
 use hss_command::{narrow, widen};
 use keygen_command::{key_of, keygen};
 use list_command::list;
 use rebut_command::rebut;
+use record_command::{RecordNames, record};
 use roll_command::{enroll, roll};
 use std::alloc::Global;
 use view_command::{StateAsked, view_at, view_changes};
@@ -55,7 +60,12 @@ pub fn avm<F: Files, D: Disk, E: Disk, S: Sink>(
     ensures headline { (segment : List ℕ) (signed : Option SignedData) → Some (audit_job segment None signed) ≡ job_of (map string_bytes words.now) → HeadlineMeans segment signed (F.file files.old) (F.file files.new) result }
     ensures check { (key evidence : List ℕ) → Some (check_job key evidence) ≡ job_of (map string_bytes words.now) → CheckMeans key evidence (F.file files.old) result }
     ensures format { (store key config image : List ℕ) → Some (format_job store key config image) ≡ job_of (map string_bytes words.now) → FormatMeans (format_names key config image) (F.file files.old) (D.seen disk.old) (D.seen disk.new) (D.may_leave disk.new) result }
+    ensures record { (store key script packets console auths : List ℕ) → Some (record_job store key script packets console auths) ≡ job_of (map string_bytes words.now) → RecordMeans (record_files key script packets console auths) (F.file files.old) (F.file files.new) (D.seen disk.old) (D.seen disk.new) (D.may_leave disk.new) (S.written out.old) (S.written out.new) result }
+    // a crash at any moment of a recording leaves an image that stands for a journal of a run of the script
+    ensures recorded { (store key script packets console auths : List ℕ) → Some (record_job store key script packets console auths) ≡ job_of (map string_bytes words.now)
+        → IfSome (D.seen disk.old) (λ was. (t : ℕ) (c : List ℕ) → t ≤ D.moment disk.old → D.left_since disk.new t c → D.left_since disk.old t c ⊎ StandsFrom (record_files key script packets console auths) (F.file files.old) was c) }
     ensures list { (store : List ℕ) → Some (list_job store) ≡ job_of (map string_bytes words.now) → ListMeans (D.seen disk.old) (S.written out.old) (S.written out.new) result }
+    ensures export { (store : List ℕ) (from to : ℕ) (segment : List ℕ) → Some (export_job store from to segment) ≡ job_of (map string_bytes words.now) → ExportMeans (asked from to segment) (D.seen disk.old) (F.file files.old) (F.file files.new) result }
     ensures rebut { (store evidence : List ℕ) → Some (rebut_job store evidence) ≡ job_of (map string_bytes words.now) → RebutMeans (F.file files.old evidence) (D.seen disk.old) (S.written out.old) (S.written out.new) result }
     ensures view { (segment : List ℕ) (count from shown : ℕ) → Some (view_at_job segment count from shown) ≡ job_of (map string_bytes words.now) → ViewMeans (ShowsState (state_asked count from shown)) (F.file files.old segment) (S.written out.old) (S.written out.new) result }
     ensures changes { (segment : List ℕ) (at : ℕ) → Some (view_changes_job segment at) ≡ job_of (map string_bytes words.now) → ViewMeans (ShowsChanges at) (F.file files.old segment) (S.written out.old) (S.written out.new) result }
@@ -68,7 +78,7 @@ pub fn avm<F: Files, D: Disk, E: Disk, S: Sink>(
     // no call on the disk without a store in the words, and none on the spare
     ensures disk { store_of (map string_bytes words.now) ≡ None → disk.new ≡ disk.old }
     ensures spare { spare.new ≡ spare.old }
-    // only a job that makes a store or a roll, or binds a key in one, changes what is on the disk, or what a crash may leave or might have left
+    // only a job that makes a store or a roll, records on one, or binds a key in one, changes what is on the disk, or what a crash may leave or might have left
     ensures same { writes_disk (job_of (map string_bytes words.now)) ≡ false → D.seen disk.new ≡ D.seen disk.old }
     ensures crash { writes_disk (job_of (map string_bytes words.now)) ≡ false → (c : List ℕ) → D.may_leave disk.new c → D.may_leave disk.old c }
     ensures moments { writes_disk (job_of (map string_bytes words.now)) ≡ false → (t : ℕ) (c : List ℕ) → t ≤ D.moment disk.old → D.left_since disk.new t c → D.left_since disk.old t c }
@@ -88,6 +98,7 @@ fn act<F: Files, D: Disk, S: Sink>(
         (record { files_before = F.faults files.old; files_now = F.faults files.new; disk_before = D.faults disk.old; disk_now = D.faults disk.new; out_before = S.faults out.old; out_now = S.faults out.new })
         (S.written out.old) (S.written out.new) result }
     ensures means { MeansAs (job_of (map string_bytes words.now)) (F.file files.old) (F.file files.new) (D.seen disk.old) (D.seen disk.new) (D.may_leave disk.new) (S.written out.old) (S.written out.new) result }
+    ensures left { MomentsAs (job_of (map string_bytes words.now)) (F.file files.old) (D.seen disk.old) (D.moment disk.old) (D.left_since disk.old) (D.left_since disk.new) }
     ensures four { result ≡ 4 → Rises (F.faults files.old) (F.faults files.new) ⊎ (Rises (D.faults disk.old) (D.faults disk.new) ⊎ Rises (S.faults out.old) (S.faults out.new)) }
     ensures not_four { result ≢ 4 → (F.faults files.new ≡ F.faults files.old) × (D.faults disk.new ≡ D.faults disk.old) × (S.faults out.new ≡ S.faults out.old) }
     ensures files { (n : List ℕ) → IsNoneOf (written_by (job_of (map string_bytes words.now))) n → F.file files.new n ≡ F.file files.old n }
@@ -116,7 +127,34 @@ fn act<F: Files, D: Disk, S: Sink>(
                 image,
             },
         ) => format(alloc, files, key, config, image, disk, out),
+        Ok(
+            Job::Record {
+                store: _,
+                key,
+                script,
+                packets,
+                console,
+                auths,
+            },
+        ) => {
+            let names = RecordNames {
+                key,
+                script,
+                packets,
+                console,
+                auths,
+            };
+            record(alloc, files, disk, names, out)
+        }
         Ok(Job::List { store: _ }) => list(alloc, disk, out),
+        Ok(
+            Job::Export {
+                store: _,
+                from,
+                to,
+                segment,
+            },
+        ) => export(alloc, files, disk, from, to, segment, out),
         Ok(Job::Rebut { store: _, evidence }) => rebut(alloc, disk, files, evidence, out),
         Ok(
             Job::Audit {

@@ -422,7 +422,7 @@ fn reads(rt: HostRuntime) {
 
 #[test]
 fn spins(rt: HostRuntime) {
-    let rows: [Row<'_>; 5] = [
+    let rows: [Row<'_>; 6] = [
         (
             &[(CONIN, 5, b"a"), (CONIN, 9, b"a")],
             "accepted 1 to 3 covered 0\n",
@@ -436,6 +436,8 @@ fn spins(rt: HostRuntime) {
         (&[(CONIN, 1023, b"a")], "accepted 1 to 2 covered 0\n", 0),
         (&[(CONIN, 1024, b"a")], "refused uncovered 2\n", 2),
         (&[(HALT, 5, CALL)], "refused uncovered 2\n", 2),
+        // The last count of all: a snapshot comes 1024 steps on, and no step more is made.
+        (&[(OUT, (1 << 62) - 1, b"A")], "refused uncovered 2\n", 2),
     ];
     assert_eq!(rt; passed(rt.alloc(), test_guests::SPINS, &rows), rows.len());
 }

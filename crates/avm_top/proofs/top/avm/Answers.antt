@@ -1,7 +1,7 @@
 use Rattle.std.proofs.Common.{None, map, string_bytes}
 use Rattle.avm_script.specs.Job.{job_of}
 use Rattle.headline.proofs.Joined.{joined}
-use Rattle.avm_top.proofs.Meant.{audit_means, check_means, format_means, list_means, rebut_means, view_means, changes_means, widen_means, narrow_means, roll_means, enroll_means, evidence_later}
+use Rattle.avm_top.proofs.Meant.{audit_means, check_means, format_means, list_means, record_means, recorded, export_means, rebut_means, view_means, changes_means, widen_means, narrow_means, roll_means, enroll_means, evidence_later}
 use Rattle.avm_top.proofs.Names.{no_store}
 use Rattle.avm_top.proofs.top.avm.Goals as goal
 
@@ -19,6 +19,15 @@ returns-clause-format g c = format_means (job_of (map string_bytes c.args.words.
 
 pub returns-clause-list : goal.returns-clause-list
 returns-clause-list g c = list_means (job_of (map string_bytes c.args.words.now)) (g.F.Files.file c.args.files.now) (g.F.Files.file c.act.new.files) (g.D.Disk.seen c.args.disk.now) (g.D.Disk.seen c.act.new.disk) (g.D.Disk.may_leave c.act.new.disk) (g.S.Sink.written c.args.out.now) (g.S.Sink.written c.act.new.out) c.act.result c.act.ensures.means
+
+pub returns-clause-record : goal.returns-clause-record
+returns-clause-record g c = record_means (job_of (map string_bytes c.args.words.now)) (g.F.Files.file c.args.files.now) (g.F.Files.file c.act.new.files) (g.D.Disk.seen c.args.disk.now) (g.D.Disk.seen c.act.new.disk) (g.D.Disk.may_leave c.act.new.disk) (g.S.Sink.written c.args.out.now) (g.S.Sink.written c.act.new.out) c.act.result c.act.ensures.means
+
+pub returns-clause-recorded : goal.returns-clause-recorded
+returns-clause-recorded g c = recorded (job_of (map string_bytes c.args.words.now)) (g.F.Files.file c.args.files.now) (g.D.Disk.seen c.args.disk.now) (g.D.Disk.moment c.args.disk.now) (g.D.Disk.left_since c.args.disk.now) (g.D.Disk.left_since c.act.new.disk) c.act.ensures.left
+
+pub returns-clause-export : goal.returns-clause-export
+returns-clause-export g c = export_means (job_of (map string_bytes c.args.words.now)) (g.F.Files.file c.args.files.now) (g.F.Files.file c.act.new.files) (g.D.Disk.seen c.args.disk.now) (g.D.Disk.seen c.act.new.disk) (g.D.Disk.may_leave c.act.new.disk) (g.S.Sink.written c.args.out.now) (g.S.Sink.written c.act.new.out) c.act.result c.act.ensures.means
 
 pub returns-clause-rebut : goal.returns-clause-rebut
 returns-clause-rebut g c = rebut_means (job_of (map string_bytes c.args.words.now)) (g.F.Files.file c.args.files.now) (g.F.Files.file c.act.new.files) (g.D.Disk.seen c.args.disk.now) (g.D.Disk.seen c.act.new.disk) (g.D.Disk.may_leave c.act.new.disk) (g.S.Sink.written c.args.out.now) (g.S.Sink.written c.act.new.out) c.act.result c.act.ensures.means
