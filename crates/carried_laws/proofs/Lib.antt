@@ -1,0 +1,3 @@
+pub mod SignedFit
+pub mod Ascents
+pub mod FewCarried
