@@ -6,7 +6,7 @@ import subprocess
 import sys
 import time
 
-STEPS = 20_000_000
+FEW, STEPS = 1_000, 100_000_000
 LINES = 200
 TIMES = 5
 
@@ -73,10 +73,12 @@ def audited(store, last):
 
 
 def plain(folder, count, size):
-    """Seconds of the four calls of so many commits on a plain file: a record and its gate, each synced."""
-    path = os.path.join(folder, "plain")
+    """Seconds of the four calls of so many commits on a plain file, a record and its gate, each synced; and then of what a recorder does
+    with the line that it releases: it is appended to another file."""
+    path, console = os.path.join(folder, "plain"), os.path.join(folder, "plain.console")
     took = []
     for _ in range(TIMES):
+        open(console, "wb").close()
         with open(path, "wb") as f:
             handle, at = f.fileno(), 0
             began = time.monotonic()
@@ -86,22 +88,34 @@ def plain(folder, count, size):
                 os.pwrite(handle, b"\1", at)
                 os.fsync(handle)
                 at += size
+                with open(console, "ab") as line:
+                    line.write(b"x\n")
             took.append(time.monotonic() - began)
     return min(took)
 
 
+def steps_store(program, folder, name, end):
+    return Store(program, folder, name, SPINS, 1 << 24, end)
+
+
 def main():
     program, folder = os.path.abspath(sys.argv[1]), sys.argv[2]
-    steps = Store(program, folder, "steps", SPINS, 1 << 24, STEPS)
-    steps.run("keygen", "--height", "5", "--w", "1", "--id", "00" * 16, "--seed", "11" * 32, "--key", steps.key(), "--public", steps.path("public"))
-    took, said = best_steps(steps)
+    short, long = steps_store(program, folder, "short", FEW), steps_store(program, folder, "long", STEPS)
+    short.run("keygen", "--height", "5", "--w", "1", "--id", "00" * 16, "--seed", "11" * 32, "--key", short.key(), "--public", short.path("public"))
+    fixed, said = best_steps(short)
     if not said.startswith("recorded"):
         print("record: the program answers `%s`, skipped" % said)
         return
-    print("record: %s; %.1f million steps a second" % (said, STEPS / took / 1e6))
-    audit, said = audited(steps, int(said.split()[2]))
+    took, said = best_steps(long)
+    print("record: %s; %.1f million steps a second, beside %.3f s of opening, key and seal" % (said, (STEPS - FEW) / (took - fixed) / 1e6, fixed))
+    last = int(said.split()[2])
+    begun, _ = audited(short, 1)
+    audit, said = audited(long, last)
     if audit is not None:
-        print("audit of the same run: %s; %.1f million steps a second; record / audit %.2f" % (said, STEPS / audit / 1e6, audit / took))
+        # the segment ends at the last snapshot
+        audited_steps = (last - 1) << 24
+        rate, other = audited_steps / (audit - begun), (STEPS - FEW) / (took - fixed)
+        print("audit of the same run: %s; %.1f million steps a second; record / audit %.2f" % (said, rate / 1e6, other / rate))
 
     # five words set up, and each line is three steps
     lines = Store(program, folder, "lines", PRINTS, 1 << 24, 3 + 3 * LINES)
@@ -111,7 +125,8 @@ def main():
         took.append(clock)
     size = (os.path.getsize(lines.path("store")) - 4096) // LINES
     four = plain(folder, LINES, size)
-    print("commits: %s; %.0f a second; the same four calls on a plain file %.0f a second; ratio %.2f" % (said, LINES / min(took), LINES / four, four / min(took)))
+    commits = min(took) - fixed
+    print("commits: %s; %.0f a second; the same calls on plain files %.0f a second; ratio %.2f" % (said, LINES / commits, LINES / four, four / commits))
 
 
 if __name__ == "__main__":
