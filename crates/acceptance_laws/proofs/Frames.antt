@@ -26,7 +26,7 @@ pub all_back : {A : Type 0} (P : A → Type 0) (xs ys : List A) → AllByRecursi
 all_back P [] ys a = a
 all_back P (x ∷ xs) ys a = all_back P xs ys a.1
 
-parts_fit : (rs : List (List Part)) → AllByRecursion FitsRecord rs → AllByRecursion FitsPart (flat_map (λ (r : List Part). r) rs)
+pub parts_fit : (rs : List (List Part)) → AllByRecursion FitsRecord rs → AllByRecursion FitsPart (flat_map (λ (r : List Part). r) rs)
 parts_fit [] a = tt
 parts_fit (r ∷ rs) a = all_join FitsPart r (flat_map (λ (r : List Part). r) rs) a.0.parts (parts_fit rs a.1)
 
