@@ -1,6 +1,6 @@
 //! What a spare is, beside a base.
 
-ghost use Rattle.std.specs.Prelude.{ℕ, List, ◌≡◌, ◌≤◌, ◌+◌, ◌^◌, ◌<◌, ◌∷◌, [], ◌++◌, ◌↔◌, IsTrue, IfOk, IfSome, length, take, drop};
+ghost use Rattle.std.specs.Prelude.{ℕ, List, ◌≡◌, ◌≤◌, ◌+◌, ◌∷◌, [], ◌++◌, ◌↔◌, IsTrue, IfOk, IfSome, length, take, drop};
 ghost use Rattle.avm_outside.specs.Outside.{Counts};
 ghost use Rattle.avm_outside.specs.Moments.{LeavesOnly};
 ghost use Rattle.base_model.specs.Spare.{IsFree, IsKind, IsPrepared};
@@ -42,7 +42,6 @@ fn is_free<E: Disk>(spare: &mut E) -> Result<bool, Failed>
 /// Whether a free spare has a base but for its first byte, and only 00 behind it.
 fn is_prepared<E: Disk>(spare: &mut E, base: &[u8]) -> Result<bool, Failed>
     requires some { 2 ≤ length base.now }
-    requires fits { length base.now ≤ 2 ^ 30 }
     requires free { IfSome (E.seen spare.old) IsFree }
     ensures prepared { IfOk result (λ b. IfSome (E.seen spare.old) (λ was. IsTrue b ↔ IsPrepared (drop 1 base.now) was)) }
     ensures same { E.seen spare.new ≡ E.seen spare.old }
@@ -61,7 +60,6 @@ pub fn spare_kind<E: Disk>(spare: &mut E, base: &[u8], header: usize) -> Result<
     requires header { header + 1 ≤ length base.now }
     requires some { 1 ≤ header }
     requires gate { take (header + 1) base.now ≡ take header base.now ++ 1 ∷ [] }
-    requires fits { length base.now ≤ 2 ^ 30 }
     ensures kind { IfOk result (λ k. IfSome (E.seen spare.old) (λ was. IsKind (take header base.now) (drop 1 base.now) (kind_view k) was × Each (E.may_leave spare.new) (λ c. c ≡ was))) }
     ensures same { E.seen spare.new ≡ E.seen spare.old }
     ensures crash { (c : List ℕ) → E.may_leave spare.new c → E.may_leave spare.old c }

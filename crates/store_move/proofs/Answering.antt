@@ -8,7 +8,7 @@ use Rattle.spare_base.specs.Kinds.{kind_view}
 use Rattle.spare_base.specs.declared.kind.Spare.{Spare}
 use Rattle.spare_base.specs.declared.kind.Spare.TheVariants as spare
 use Rattle.spare_disk.specs.Activating.{Each}
-use Rattle.store_move.specs.Moving.{AnswersBy, EndCause, HasBase, IsOpen, KindAnswers, MoveCause, OpenAnswers, RetiredAnswers}
+use Rattle.store_move.specs.Moving.{AnswersBy, EndCause, HasBase, IsOpen, KindAnswers, OpenAnswers, RetiredAnswers, ShortCause}
 use Rattle.store_move.specs.declared.fault.RetainFault.{RetainFault}
 use Rattle.store_move.specs.declared.fault.RetainFault.TheVariants as fault
 
@@ -85,9 +85,9 @@ ended_answers None k at n header behind images kind r mark seen cause = tt
 ended_answers (Some was) k at n header behind images kind r mark seen cause =
     subst (λ (o : Option ℕ). AnswersBy o k at header behind was r) (sym mark) (retired header behind was kind r seen.0 cause)
 
-moving : {T : Type 0} (k : Kept) (at : ℕ) (header behind was : List ℕ) (r : Result T RetainFault) → IsOpen header behind was → MoveCause k at r → OpenAnswers k at header behind was r
-moving k at header behind was (Ok t) is c = (is, c)
-moving k at header behind was (Err fault.DiskFault) is c = (is, c)
+moving : {T : Type 0} (k : Kept) (at : ℕ) (header behind was : List ℕ) (r : Result T RetainFault) → IsOpen header behind was → ShortCause behind k at r → OpenAnswers k at header behind was r
+moving k at header behind was (Ok t) is c = (is, c.0, c.1)
+moving k at header behind was (Err fault.DiskFault) is c = (is, c.0, c.1)
 moving k at header behind was (Err fault.SpareFault) is c = tt
 moving k at header behind was (Err fault.Full) is c = (is, c)
 moving k at header behind was (Err fault.NoMemory) is c = absurd c
@@ -99,7 +99,7 @@ moving k at header behind was (Err fault.NotEmpty) is c = absurd c
 moving k at header behind was (Err fault.OtherSpare) is c = absurd c
 
 -- of a store that moves
-pub moved_answers : {T : Type 0} (told : Option (List ℕ)) (k : Kept) (at : ℕ) (header behind : List ℕ) (r : Result T RetainFault) → k.mark ≡ None → IfSome told (IsOpen header behind) → MoveCause k at r → IfSome told (λ was. KindAnswers k at header behind was r)
+pub moved_answers : {T : Type 0} (told : Option (List ℕ)) (k : Kept) (at : ℕ) (header behind : List ℕ) (r : Result T RetainFault) → k.mark ≡ None → IfSome told (IsOpen header behind) → ShortCause behind k at r → IfSome told (λ was. KindAnswers k at header behind was r)
 moved_answers None k at header behind r mark seen cause = tt
 moved_answers (Some was) k at header behind r mark seen cause = subst (λ (o : Option ℕ). AnswersBy o k at header behind was r) (sym mark) (moving k at header behind was r seen cause)
 

@@ -121,6 +121,12 @@ module _ {D E : Type 0} (moment : D → ℕ) (left_since : D → ℕ → List �
   abbrev pub Lessened : E → E → Type 0
   Lessened other mid = ((e : List ℕ) → may_leave_2 mid e → may_leave_2 other e) × LeavesOnly moment_2 left_since_2 other mid (may_leave_2 other)
 
+  -- where nothing was called
+  pub still_told : (k : Kept) (at : ℕ) (old : D) (other : E) (told told_2 : Option (List ℕ)) → Told k at old old other other told told_2
+  still_told k at old other None told_2 = tt
+  still_told k at old other (Some was) None = tt
+  still_told k at old other (Some was) (Some w) = λ j own snap free. unmarked_apart old other other free (λ e left. left) (started moment_2 left_since_2 other (may_leave_2 other) (λ e left. only_now_2 other e left))
+
   -- where the spare was only read
   pub read_whole : (k : Kept) (at : ℕ) (mark : Option ℕ) (old : D) (other last : E) (told told_2 : Option (List ℕ)) → k.stop ≡ None → k.mark ≡ mark → Lessened other last → Whole k at old old other last told told_2
   read_whole k at mark old other last None told_2 run is less = tt

@@ -1,5 +1,5 @@
 -- How a store's move ends.
-use Rattle.std.specs.Prelude.{◌≡◌, ◌⊎◌, ℕ, List, Option, Some, None, Result, Ok, Err}
+use Rattle.std.specs.Prelude.{◌≡◌, ◌⊎◌, ◌^◌, ◌≤◌, ℕ, List, length, Option, Some, None, Result, Ok, Err}
 use Rattle.avm_outside.specs.Outside.{Rises}
 use Rattle.base_model.specs.Spare.{Active, Free, IsActive, IsKind, IsWhole, Other, Prepared}
 use Rattle.journal_model.specs.Spelling.{mark_items}
@@ -25,6 +25,18 @@ MoveCause k n (Err fault.DiskFault) = IsFull k (mark_items n) → ⊥
 MoveCause k n (Err fault.SpareFault) = Unit {0}
 MoveCause k n (Err fault.Full) = IsFull k (mark_items n)
 MoveCause k n (Err e) = ⊥
+
+-- a base, of which these are the bytes behind its first, is longer than a journal can be
+abbrev pub IsLong : List ℕ → Type 0
+IsLong behind = 2 ^ 30 ≤ length behind
+
+-- Full exactly where the base is too long or the mark doesn't fit, but for a spare that fails before
+abbrev pub ShortCause : {T : Type 0} → List ℕ → Kept → ℕ → Result T RetainFault → Type 0
+ShortCause behind k n (Ok t) = (IsLong behind → ⊥) × (IsFull k (mark_items n) → ⊥)
+ShortCause behind k n (Err fault.DiskFault) = (IsLong behind → ⊥) × (IsFull k (mark_items n) → ⊥)
+ShortCause behind k n (Err fault.SpareFault) = IsLong behind → ⊥
+ShortCause behind k n (Err fault.Full) = IsLong behind ⊎ IsFull k (mark_items n)
+ShortCause behind k n (Err e) = ⊥
 
 -- a fault only where that disk's count rose, and else neither rises
 abbrev pub MoveCounts : {T : Type 0} → ℕ → ℕ → ℕ → ℕ → Result T RetainFault → Type 0
@@ -56,10 +68,10 @@ IsOpen header behind was = IsKind header behind Free was ⊎ IsKind header behin
 
 -- the answers of a store without a mark
 abbrev pub OpenAnswers : {T : Type 0} → Kept → ℕ → List ℕ → List ℕ → List ℕ → Result T RetainFault → Type 0
-OpenAnswers k at header behind was (Ok t) = IsOpen header behind was × (IsFull k (mark_items at) → ⊥)
-OpenAnswers k at header behind was (Err fault.DiskFault) = IsOpen header behind was × (IsFull k (mark_items at) → ⊥)
+OpenAnswers k at header behind was (Ok t) = IsOpen header behind was × (IsLong behind → ⊥) × (IsFull k (mark_items at) → ⊥)
+OpenAnswers k at header behind was (Err fault.DiskFault) = IsOpen header behind was × (IsLong behind → ⊥) × (IsFull k (mark_items at) → ⊥)
 OpenAnswers k at header behind was (Err fault.SpareFault) = Unit {0}
-OpenAnswers k at header behind was (Err fault.Full) = IsOpen header behind was × IsFull k (mark_items at)
+OpenAnswers k at header behind was (Err fault.Full) = IsOpen header behind was × (IsLong behind ⊎ IsFull k (mark_items at))
 OpenAnswers k at header behind was (Err fault.NotEmpty) = IsKind header behind Active was ⊎ IsKind header behind Other was
 OpenAnswers k at header behind was (Err e) = ⊥
 

@@ -1,6 +1,6 @@
 //! A store is retained as a base on a spare: it moves there, or a move that was cut is ended.
 
-ghost use Rattle.std.specs.Prelude.{ℕ, ◌≡◌, ◌+◌, ◌^◌, ◌≤◌, ◌∷◌, [], ◌++◌, None, Some, true, List, length, take, drop, IfSome, OnOk};
+ghost use Rattle.std.specs.Prelude.{ℕ, ◌≡◌, ◌+◌, ◌≤◌, ◌∷◌, [], ◌++◌, None, Some, true, List, length, take, drop, IfSome, OnOk};
 ghost use Rattle.avm_outside.specs.Outside.{BothTold};
 ghost use Rattle.avm_outside.specs.Moments.{LeavesOnly};
 ghost use Rattle.base_model.specs.Spare.{IsFree, IsPrepared, IsSafe, IsWhole, TogetherOnly};
@@ -9,7 +9,7 @@ ghost use Rattle.jrnl_store.specs.Kept.{kept};
 ghost use Rattle.jrnl_store.specs.Own.{IsOwn};
 ghost use Rattle.jrnl_store.specs.Retiring.{with_mark_at};
 ghost use Rattle.spare_disk.specs.Activating.{Each};
-ghost use Rattle.store_move.specs.Moving.{EndCause, EndCounts, HasBase, KindAnswers, MoveCounts};
+ghost use Rattle.store_move.specs.Moving.{EndCause, EndCounts, HasBase, IsLong, KindAnswers, MoveCounts, ShortCause};
 
 use crate::fault::RetainFault;
 use crate::moving::move_store;
@@ -38,8 +38,37 @@ fn end_move<E: Disk>(spare: &mut E, kind: Spare) -> Result<(), RetainFault>
     }
 }
 
+/// Moves a store, if the base isn't longer than a journal can be.
+fn move_short<D: Disk, E: Disk>(
+    journal: &mut Journal,
+    disk: &mut D,
+    at: u64,
+    spare: &mut E,
+    base: &[u8],
+) -> Result<(), RetainFault>
+    requires own { IfSome (D.seen disk.old) (λ was. (j : JournalData) × IsOwn (kept journal.old) (D.may_leave disk.old) was j × (has_snap at (entries j) ≡ true)) }
+    requires unmarked { (kept journal.old).mark ≡ None }
+    requires run { (kept journal.old).stop ≡ None }
+    requires some { 1 ≤ length base.now }
+    requires free { IfSome (E.seen spare.old) IsFree }
+    ensures together { IfSome (D.seen disk.old) (λ was. IfSome (E.seen spare.old) (λ other. (j : JournalData) → IsOwn (kept journal.old) (D.may_leave disk.old) was j → has_snap at (entries j) ≡ true → Each (E.may_leave spare.old) IsFree
+        → TogetherOnly D.moment D.left_since D.may_leave E.moment E.left_since E.may_leave disk.old disk.new spare.old spare.new IsSafe)) }
+    ensures marked { OnOk result (BothTold (D.seen disk.old) (D.seen disk.new) (λ was now. (j : JournalData) → IsOwn (kept journal.old) (D.may_leave disk.old) was j → has_snap at (entries j) ≡ true
+        → IsOwn (kept journal.new) (D.may_leave disk.new) now (with_mark_at j at))) }
+    ensures moved { OnOk result (BothTold (E.seen spare.old) (E.seen spare.new) (λ was now. IsWhole (drop 1 base.now) now × Each (E.may_leave spare.new) (λ c. c ≡ now))) }
+    ensures cause { ShortCause (drop 1 base.now) (kept journal.old) at result }
+    ensures unwritten { IsLong (drop 1 base.now) → (disk.new ≡ disk.old) × (spare.new ≡ spare.old) }
+    ensures faults { MoveCounts (D.faults disk.old) (D.faults disk.new) (E.faults spare.old) (E.faults spare.new) result }
+{
+    if base.len() > 1 << 30 {
+        return Err(RetainFault::Full);
+    }
+    move_store(journal, disk, at, spare, base)
+}
+
 /// Moves a store without a mark to a spare that is free, and ends the move of a store that has it. `base` are the bytes of the base
-/// that goes on from SNAP entry `at`, of which the header has so many. At any moment each image of the spare is free, or each image
+/// that goes on from SNAP entry `at`, of which the header has so many; a longer base than a journal can be is `Full`, behind what the
+/// spare is. At any moment each image of the spare is free, or each image
 /// of the store has the mark.
 pub fn retain_base<D: Disk, E: Disk>(
     journal: &mut Journal,
@@ -54,7 +83,6 @@ pub fn retain_base<D: Disk, E: Disk>(
     requires some { 1 ≤ header }
     requires header { header + 1 ≤ length base.now }
     requires gate { take (header + 1) base.now ≡ take header base.now ++ 1 ∷ [] }
-    requires fits { length base.now ≤ 2 ^ 30 }
     ensures together { IfSome (D.seen disk.old) (λ was. IfSome (E.seen spare.old) (λ other. (j : JournalData) → IsOwn (kept journal.old) (D.may_leave disk.old) was j → has_snap at (entries j) ≡ true → ((kept journal.old).mark ≡ None → Each (E.may_leave spare.old) IsFree)
         → TogetherOnly D.moment D.left_since D.may_leave E.moment E.left_since E.may_leave disk.old disk.new spare.old spare.new IsSafe)) }
     ensures marked { OnOk result (BothTold (D.seen disk.old) (D.seen disk.new) (λ was now. (j : JournalData) → IsOwn (kept journal.old) (D.may_leave disk.old) was j → has_snap at (entries j) ≡ true → (kept journal.old).mark ≡ None
@@ -73,8 +101,8 @@ pub fn retain_base<D: Disk, E: Disk>(
         None => match kind {
             Spare::Active => Err(RetainFault::NotEmpty),
             Spare::Other => Err(RetainFault::NotEmpty),
-            Spare::Free => move_store(journal, disk, at, spare, base),
-            Spare::Prepared => move_store(journal, disk, at, spare, base),
+            Spare::Free => move_short(journal, disk, at, spare, base),
+            Spare::Prepared => move_short(journal, disk, at, spare, base),
         },
     }
 }

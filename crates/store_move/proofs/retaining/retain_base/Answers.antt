@@ -23,11 +23,11 @@ returns-in-Other-clause-together g c =
 
 pub returns-in-Free-clause-together : goal.returns-in-Free-clause-together
 returns-in-Free-clause-together g c =
-    moved_whole g.D.Disk.moment g.D.Disk.left_since g.D.Disk.may_leave g.met.D.Disk.only_now g.E.Disk.moment g.E.Disk.left_since g.E.Disk.may_leave g.met.E.Disk.only_now (kept c.args.journal.now) c.args.at _ _ _ _ _ _ _ _ (sym c.retired.ensures ∙ c.in-None.is) c.spare_kind.ensures.same (c.spare_kind.ensures.crash, c.spare_kind.ensures.any_moment) c.move_store.ensures.together
+    moved_whole g.D.Disk.moment g.D.Disk.left_since g.D.Disk.may_leave g.met.D.Disk.only_now g.E.Disk.moment g.E.Disk.left_since g.E.Disk.may_leave g.met.E.Disk.only_now (kept c.args.journal.now) c.args.at _ _ _ _ _ _ _ _ (sym c.retired.ensures ∙ c.in-None.is) c.spare_kind.ensures.same (c.spare_kind.ensures.crash, c.spare_kind.ensures.any_moment) c.move_short.ensures.together
 
 pub returns-in-Prepared-clause-together : goal.returns-in-Prepared-clause-together
 returns-in-Prepared-clause-together g c =
-    moved_whole g.D.Disk.moment g.D.Disk.left_since g.D.Disk.may_leave g.met.D.Disk.only_now g.E.Disk.moment g.E.Disk.left_since g.E.Disk.may_leave g.met.E.Disk.only_now (kept c.args.journal.now) c.args.at _ _ _ _ _ _ _ _ (sym c.retired.ensures ∙ c.in-None.is) c.spare_kind.ensures.same (c.spare_kind.ensures.crash, c.spare_kind.ensures.any_moment) c.move_store-in-Prepared.ensures.together
+    moved_whole g.D.Disk.moment g.D.Disk.left_since g.D.Disk.may_leave g.met.D.Disk.only_now g.E.Disk.moment g.E.Disk.left_since g.E.Disk.may_leave g.met.E.Disk.only_now (kept c.args.journal.now) c.args.at _ _ _ _ _ _ _ _ (sym c.retired.ensures ∙ c.in-None.is) c.spare_kind.ensures.same (c.spare_kind.ensures.crash, c.spare_kind.ensures.any_moment) c.move_short-in-Prepared.ensures.together
 
 pub returns-in-Some-clause-together : goal.returns-in-Some-clause-together
 returns-in-Some-clause-together g c =
@@ -37,4 +37,4 @@ pub returns-in-Prepared-clause-answers : goal.returns-in-Prepared-clause-answers
 returns-in-Prepared-clause-answers g c =
     let told = g.E.Disk.seen c.args.spare.now in
     let seen = rw c.in-Prepared.is at c.in-Ok.ensures.kind in
-    moved_answers told (kept c.args.journal.now) c.args.at (take c.args.header c.args.base.now) (drop 1 c.args.base.now) _ (sym c.retired.ensures ∙ c.in-None.is) (prepared_opens told (take c.args.header c.args.base.now) (drop 1 c.args.base.now) (g.E.Disk.may_leave c.spare_kind.new.spare) seen) c.move_store-in-Prepared.ensures.cause
+    moved_answers told (kept c.args.journal.now) c.args.at (take c.args.header c.args.base.now) (drop 1 c.args.base.now) _ (sym c.retired.ensures ∙ c.in-None.is) (prepared_opens told (take c.args.header c.args.base.now) (drop 1 c.args.base.now) (g.E.Disk.may_leave c.spare_kind.new.spare) seen) c.move_short-in-Prepared.ensures.cause
