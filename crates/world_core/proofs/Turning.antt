@@ -25,7 +25,7 @@ use Rattle.world_core.specs.Runs.{Runs}
 use Rattle.avm_outside.specs.MemDisks.{disk_bytes}
 use Rattle.jrnl_store.specs.Kept.{kept as kept_of}
 use Rattle.record_parts.specs.declared.answers.Turn.TheVariants as turn
-use Rattle.record_turn.specs.Leaves.{Leaves}
+use Rattle.record_turn.specs.Leaves.{Leaves, OnOutlet}
 use Rattle.world_core.specs.Turns.{Ended, IsDiskOf, Packets, SealOf, TurnOf, aside_in, left_since, may_leave, moment, one_answer, recording_of, stays}
 use Rattle.world_parts.specs.Holding.{with_piece}
 
@@ -89,10 +89,12 @@ Left d e r q held left before packets answer f =
     (Planned with_piece stays (record { key = (desk_of r).press.key; own = (desk_of q).machine.state.devices.own }) gift value (recording_of j (desk_of r)) (aside_in (desk_of r)) (aside_in (desk_of q)) (desk_of q).store.batch.parts (desk_of q).machine.state f before packets (result_of answer)))
 
 pub turn_of_call : (d e : MemDisk) (r q : Recorder) (held left : Agenda) (before packets : Packets) (answer : Turn) (f : Faults) → (stop_of r ≡ None → UnlessFeed (result_of answer) (Left d e r q held left before packets answer f)) → FeedStops (result_of answer) 0 0
-    → ((stop : Stop) → stop_of r ≡ Some stop → (answer ≡ turn.Ended stop) × Ended d e r q before packets) → stop_of q ≡ stop_behind (stop_of r) (result_of answer) → (desk_of q).press.key ≡ (desk_of r).press.key → TurnOf d e r q held before packets answer
-turn_of_call d e r q held left before packets answer f turns feed ended stop key = record {
+    → ((stop : Stop) → stop_of r ≡ Some stop → (answer ≡ turn.Ended stop) × Ended d e r q before packets) → stop_of q ≡ stop_behind (stop_of r) (result_of answer) → (desk_of q).press.key ≡ (desk_of r).press.key
+    → OnOutlet (result_of answer) ((kept_of (desk_of q).store.journal).stop ≡ None) → TurnOf d e r q held before packets answer
+turn_of_call d e r q held left before packets answer f turns feed ended stop key run = record {
   goes = λ runs j own. let t = never_fed (result_of answer) (Left d e r q held left before packets answer f) feed (turns runs) in record { gift = t.0; value = t.1; left = left; feeds = t.2; faults = f; leaves = t.3 j own };
   ended = ended;
   stop = stop;
   key = key;
+  run = run;
 }

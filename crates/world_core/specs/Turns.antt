@@ -20,7 +20,7 @@ use Rattle.record_parts.specs.declared.answers.Turn.TheVariants as turn
 use Rattle.record_ready.specs.Ready.{IsDeskOf}
 use Rattle.record_turn.specs.Desk.{rows_of}
 use Rattle.record_turn.specs.Keeping.{Aside, aside_of}
-use Rattle.record_turn.specs.Leaves.{Leaves, Seals}
+use Rattle.record_turn.specs.Leaves.{Leaves, OnOutlet, Seals}
 use Rattle.record_turn.specs.declared.desk.Desk.{Desk}
 use Rattle.recorder.specs.Recorder.{desk_of, stop_of}
 use Rattle.recorder.specs.Turns.{Feeds, Planned, result_of, seal_result, stop_behind}
@@ -90,6 +90,7 @@ pub record TurnOf (d e : MemDisk) (r q : Recorder) (held : Agenda) (before packe
   pub ended : (stop : Stop) → stop_of r ≡ Some stop → (answer ≡ turn.Ended stop) × Ended d e r q before packets
   pub stop : stop_of q ≡ stop_behind (stop_of r) (result_of answer)
   pub key : (desk_of q).press.key ≡ (desk_of r).press.key
+  pub run : OnOutlet (result_of answer) ((kept_of (desk_of q).store.journal).stop ≡ None)
 
 -- What a seal did.
 pub record SealOf (d e : MemDisk) (r q : Recorder) (before packets : Packets) (answer : Sealed) : Type 0 where
@@ -99,3 +100,4 @@ pub record SealOf (d e : MemDisk) (r q : Recorder) (before packets : Packets) (a
   pub key : (desk_of q).press.key ≡ (desk_of r).press.key
   pub machine : (desk_of q).machine ≡ (desk_of r).machine
   pub rows : rows_of (desk_of q).kept ≡ rows_of (desk_of r).kept
+  pub run : OnOutlet (seal_result answer) ((kept_of (desk_of q).store.journal).stop ≡ None)

@@ -135,7 +135,7 @@ sealed_event pool who r h s = go (needs_no_seal r) refl (sealed_released who r s
 -- ---- what happens at a recorder
 
 -- a recorder with what it releases is behind an event, and sound
-abbrev Sounds : List Piece → Recording → Recording → List Piece → Type 0
+abbrev pub Sounds : List Piece → Recording → Recording → List Piece → Type 0
 Sounds pool r q pieces = IsEvent (pieces_show pool) (node_of r) (node_of q) (pieces_show pieces) × IsSound q
 
 quietly : (pool : List Piece) (r q x : Recording) (pieces : List Piece) → x ≡ q → pieces ≡ [] → Sounds pool r q [] → Sounds pool r x pieces
@@ -156,7 +156,7 @@ given pool r x pieces d g h =
     let all : IsEvent (pieces_show pool) (node_of r) (node_of d.recording) (pieces_show (pieces ++ g.rest)) = subst (λ (ps : List Piece). IsEvent (pieces_show pool) (node_of r) (node_of d.recording) (pieces_show ps)) g.front h.0 in
     rw g.recording (event_front (pieces_show pool) (node_of r) (node_of d.recording) pieces g.rest all, h.1)
 
-happens_event : (pool : List Piece) (s : Station) (q : Recording) (pieces : List Piece) → IsSound s.recording → Happens pool s q pieces → Sounds pool s.recording q pieces
+pub happens_event : (pool : List Piece) (s : Station) (q : Recording) (pieces : List Piece) → IsSound s.recording → Happens pool s q pieces → Sounds pool s.recording q pieces
 happens_event pool s q pieces h (Moves n u m e f) =
     let k = moved_kept s.recording n u h m in
     quietly pool s.recording (record s.recording { machine = u }) q pieces e f (

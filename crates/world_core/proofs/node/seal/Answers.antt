@@ -15,6 +15,7 @@ returns-clause-seal c = record {
   key = c.seal.ensures.key;
   machine = c.seal.ensures.machine;
   rows = c.seal.ensures.kept;
+  run = c.seal.ensures.run;
 }
 
 pub returns-clause-runs : goal.returns-clause-runs

@@ -10,7 +10,7 @@ returns-clause-turn c =
     (record { disk_before = disk_faults c.args.disk.now; disk_after = disk_faults c.turn.new.disk; outlet_before = outlet_faults c.args.outlet.now; outlet_after = outlet_faults c.turn.new.outlet })
     c.turn.ensures.turns c.turn.ensures.feed_faults
     (λ stop was. let t = c.turn.ensures.ended stop was in (t.0, record { same = t.1; disk = t.2; none = ap one_packets t.4 }))
-    c.turn.ensures.stop c.turn.ensures.key
+    c.turn.ensures.stop c.turn.ensures.key c.turn.ensures.run
 
 pub returns-clause-runs : goal.returns-clause-runs
 returns-clause-runs c =

@@ -1,0 +1,9 @@
+pub mod Own
+pub mod Written
+pub mod Gifts
+pub mod Opening
+pub mod Acting
+pub mod Sealing
+pub mod Nodes
+pub mod Joining
+pub mod Worlds
