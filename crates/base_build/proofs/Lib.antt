@@ -1,0 +1,4 @@
+pub mod Judged
+pub mod Bases
+pub mod Gates
+pub mod Builts
