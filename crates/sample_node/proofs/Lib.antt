@@ -1,3 +1,3 @@
-mod Owns
+pub mod Owns
 mod Seals
 mod Turns

@@ -23,7 +23,7 @@ use Rattle.record_parts.specs.declared.answers.Sealed.TheVariants as seal
 use Rattle.record_turn.specs.Desk.{rows_of}
 use Rattle.record_turn.specs.Leaves.{Leaves, Seals}
 use Rattle.recorder.specs.Recorder.{desk_of}
-use Rattle.recorder.specs.Turns.{seal_result}
+use Rattle.recorder.specs.Turns.{seal_result, stop_behind}
 use Rattle.sample_model.specs.Talk.{nothing}
 use Rattle.sample_node.specs.Node.{IsLeft, IsNode, SealEnds, sender_in}
 use Rattle.sample_node.specs.Progresses.{SealedAs}
@@ -87,9 +87,9 @@ holds who n r (Err e) p = tt
 holds who n r (Ok x) p = p
 
 -- a seal's end, by its answer
-pub seal_ends : {T E : Type 0} (moment : MemDisk → ℕ) (left_since : MemDisk → ℕ → List ℕ → Type 0) (o n : Node) (r : Run) (f : Faults) (answer : Sealed) (res : Result T E) → IsNode o r → (desk_of n.recorder).machine ≡ (desk_of o.recorder).machine
+pub seal_ends : {E : Type 0} (moment : MemDisk → ℕ) (left_since : MemDisk → ℕ → List ℕ → Type 0) (o n : Node) (r : Run) (f : Faults) (answer : Sealed) (res : Result Bool E) → IsNode o r → (desk_of n.recorder).machine ≡ (desk_of o.recorder).machine
     → told_of moment left_since o n f (seal_result answer) → SealedAs answer res → SealEnds (sender_in o) n r res
-seal_ends moment left_since o n r f answer res h machine told p =
+seal_ends {E} moment left_since o n r f answer res h machine told p =
     let l = told r.recording.journal h.disk.own in
     let is : seals_in o n r.recording f (seal_result answer) l.next l.flight = subst (λ (x : Recording). seals_in o n x f (seal_result answer) l.next l.flight) (found o n r h machine) l.is in
     go answer l.next l.holds.own is.ends p
@@ -103,3 +103,24 @@ seal_ends moment left_since o n r f answer res h machine told p =
     go (seal.Stopped OutletFault) next own e p = fails (sender_in o) n r res p
     go (seal.Stopped FeedFault) next own e p = fails (sender_in o) n r res p
     go (seal.Ended why) next own e p = fails (sender_in o) n r res p
+
+true_false : {E : Type 0} (res : Result Bool E) → res ≡ Ok true → res ≡ Ok false → ⊥
+true_false res p q = let e = sym p ∙ q in cc e
+
+err_true : {E : Type 0} (res : Result Bool E) → res ≡ Ok true → IsErr res → ⊥
+err_true (Ok b) p q = absurd (cc q)
+err_true (Err e) p q = absurd (cc p)
+
+-- where it was saved the recorder goes on
+pub seal_saved : {E : Type 0} (before now : Option Stop) (answer : Sealed) (res : Result Bool E) → now ≡ stop_behind before (seal_result answer) → SealedAs answer res → before ≡ None → res ≡ Ok true → now ≡ None
+seal_saved before now answer res stop p none is = go answer stop p
+  where
+    go : (a : Sealed) → now ≡ stop_behind before (seal_result a) → SealedAs a res → now ≡ None
+    go seal.Done stop p = stop ∙ ap (λ (s : Option Stop). stop_behind s (seal_result seal.Done)) none
+    go seal.Again stop p = stop ∙ ap (λ (s : Option Stop). stop_behind s (seal_result seal.Again)) none
+    go (seal.Stopped LeavesSpent) stop p = absurd (true_false res is p)
+    go (seal.Stopped Full) stop p = absurd (true_false res is p)
+    go (seal.Stopped DiskFault) stop p = absurd (err_true res is p)
+    go (seal.Stopped OutletFault) stop p = absurd (err_true res is p)
+    go (seal.Stopped FeedFault) stop p = absurd (err_true res is p)
+    go (seal.Ended why) stop p = absurd (err_true res is p)

@@ -1,5 +1,5 @@
 -- What the answers of a recorder say of a run.
-use Rattle.std.specs.Prelude.{◌≡◌, Result, Ok, IsErr, IsOk}
+use Rattle.std.specs.Prelude.{◌≡◌, Bool, true, false, Result, Ok, IsErr}
 use Rattle.jrnl_store.specs.declared.fault.Stop.TheVariants.{LeavesSpent, Full, DiskFault, OutletFault, FeedFault}
 use Rattle.record_parts.specs.declared.answers.Sealed.{Sealed}
 use Rattle.record_parts.specs.declared.answers.Sealed.TheVariants as seal
@@ -25,11 +25,11 @@ ProgressOf (turn.Stopped FeedFault) r = IsErr r
 ProgressOf (turn.Ended why) r = IsErr r
 
 -- the seal was saved, or can't be
-abbrev pub SealedAs : {T E : Type 0} → Sealed → Result T E → Type 0
-SealedAs seal.Done r = IsOk r
-SealedAs seal.Again r = IsOk r
-SealedAs (seal.Stopped LeavesSpent) r = IsOk r
-SealedAs (seal.Stopped Full) r = IsOk r
+abbrev pub SealedAs : {E : Type 0} → Sealed → Result Bool E → Type 0
+SealedAs seal.Done r = r ≡ Ok true
+SealedAs seal.Again r = r ≡ Ok true
+SealedAs (seal.Stopped LeavesSpent) r = r ≡ Ok false
+SealedAs (seal.Stopped Full) r = r ≡ Ok false
 SealedAs (seal.Stopped DiskFault) r = IsErr r
 SealedAs (seal.Stopped OutletFault) r = IsErr r
 SealedAs (seal.Stopped FeedFault) r = IsErr r

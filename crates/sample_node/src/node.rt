@@ -1,12 +1,12 @@
 //! The first node: its recorder, with what it works on.
 
-ghost use Rattle.std.specs.Prelude.{◌≡◌, Some};
+ghost use Rattle.std.specs.Prelude.{◌≡◌, None, Ok, Some, true};
 ghost use Rattle.avm_outside.specs.DiskLog.{IsImage};
 ghost use Rattle.avm_outside.specs.MemDisks.{disk_bytes, state_now};
 ghost use Rattle.jrnl_store.specs.Kept.{kept as kept_of};
 ghost use Rattle.record_model.specs.Recorded.{Run};
 ghost use Rattle.record_turn.specs.Desk.{HasDisk};
-ghost use Rattle.recorder.specs.Recorder.{desk_of};
+ghost use Rattle.recorder.specs.Recorder.{desk_of, stop_of};
 ghost use Rattle.sample_node.specs.Node.{IsNode, SealEnds, TurnEnds, sender_in};
 ghost use Rattle.sample_node.specs.Progresses.{ProgressOf, SealedAs};
 
@@ -45,13 +45,13 @@ fn answered(turn: Turn) -> Result<Progress, NoMemory>
     }
 }
 
-/// Whether a seal was made; it isn't where it can't be saved, either.
-fn outcome(sealed: Sealed) -> Result<(), NoMemory>
+/// Whether a seal was saved, or can't be.
+fn outcome(sealed: Sealed) -> Result<bool, NoMemory>
     ensures { SealedAs sealed result }
 {
     match sealed {
-        Sealed::Done | Sealed::Again => Ok(()),
-        Sealed::Stopped(Stop::LeavesSpent) | Sealed::Stopped(Stop::Full) => Ok(()),
+        Sealed::Done | Sealed::Again => Ok(true),
+        Sealed::Stopped(Stop::LeavesSpent) | Sealed::Stopped(Stop::Full) => Ok(false),
         Sealed::Stopped(_) | Sealed::Ended(_) => Err(NoMemory),
     }
 }
@@ -69,10 +69,11 @@ impl Node {
         answered(turn)
     }
 
-    /// Seals a run that has ended.
-    pub fn seal(&mut self) -> Result<(), NoMemory>
+    /// Seals a run that has ended, and tells whether the seal could be saved.
+    pub fn seal(&mut self) -> Result<bool, NoMemory>
         requires own { HasDisk (kept_of (desk_of self.old.recorder).store.journal) (IsImage (state_now self.old.disk)) (Some (disk_bytes self.old.disk)) }
         ensures ends { (r : Run) → IsNode self.old r → SealEnds (sender_in self.old) self.new r result }
+        ensures saved { stop_of self.old.recorder ≡ None → result ≡ Ok true → stop_of self.new.recorder ≡ None }
         ensures key { (desk_of self.new.recorder).press.key ≡ (desk_of self.old.recorder).press.key }
     {
         let answer = self.recorder.seal(&mut self.disk, &mut self.outlet);

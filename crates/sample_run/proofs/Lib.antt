@@ -1,0 +1,3 @@
+mod Exchanging
+mod Openings
+mod Storing
