@@ -44,3 +44,12 @@ Judges n j (Err fault.DiskFault) = Unit {0}
 Judges n j (Err (fault.Unreplayed k)) = IsStretch j n (Some k)
 Judges n j (Err fault.Range) = IsStretch j n None × (s : State) × IsStateAt j n s × (can_begin (has_snap n (entries j)) n s.count ≡ false)
 Judges n j (Err e) = ⊥
+
+-- what a refusal before anything is called on a spare may be
+abbrev pub IsOfReading : RetainFault → Type 0
+IsOfReading fault.NoMemory = Unit {0}
+IsOfReading fault.DiskFault = Unit {0}
+IsOfReading fault.NoStore = Unit {0}
+IsOfReading (fault.Unreplayed n) = Unit {0}
+IsOfReading fault.Range = Unit {0}
+IsOfReading e = ⊥

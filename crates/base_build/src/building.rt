@@ -1,6 +1,6 @@
 //! The bytes of a base.
 
-ghost use Rattle.std.specs.Prelude.{◌≡◌, ◌≤◌, None, IfOk, length};
+ghost use Rattle.std.specs.Prelude.{◌≡◌, ◌≤◌, None, IfErr, IfOk, length};
 ghost use Rattle.avm_num.specs.Room.{left};
 ghost use Rattle.avm_model.specs.Head.{head_bytes};
 ghost use Rattle.avm_model.specs.HeadState.{data_of};
@@ -8,7 +8,7 @@ ghost use Rattle.jrnl_store.specs.Kept.{kept};
 ghost use Rattle.rebut_model.specs.Texts.{OfHead};
 ghost use Rattle.rebut_pass.specs.Reads.{OnlyReads, ReadCounts};
 ghost use Rattle.base_build.specs.Counts.{DiskCounts};
-ghost use Rattle.base_build.specs.Judging.{IsPoint};
+ghost use Rattle.base_build.specs.Judging.{IsOfReading, IsPoint};
 ghost use Rattle.base_build.specs.Building.{Builds, Gated, HasGate, IsBaseAt, OfStore, is_gated};
 
 use crate::fault::of_read;
@@ -121,6 +121,7 @@ pub fn build<D: Disk>(
 ) -> Result<Base, RetainFault>
     ensures built { OfStore (D.seen disk.old) (kept journal.old) (λ j. Builds at j result) }
     ensures gate { IfOk result HasGate }
+    ensures cause { IfErr result IsOfReading }
     ensures kept { kept journal.new ≡ kept journal.old }
     ensures reads { OnlyReads D.seen D.may_leave D.moment D.left_since disk.old disk.new }
     ensures disk { DiskCounts (D.faults disk.old) (D.faults disk.new) result }

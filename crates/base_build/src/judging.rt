@@ -1,12 +1,12 @@
 //! Whether a store can go on from an entry.
 
-ghost use Rattle.std.specs.Prelude.{◌≡◌, None, IfOk, true};
+ghost use Rattle.std.specs.Prelude.{◌≡◌, None, IfErr, IfOk, true};
 ghost use Rattle.avm_model.specs.HeadReading.{head_of};
 ghost use Rattle.jrnl_store.specs.Kept.{kept};
 ghost use Rattle.keep_judge.specs.Good.{pages_fit};
 ghost use Rattle.rebut_pass.specs.Reads.{OfJournal, OnlyReads};
 ghost use Rattle.base_build.specs.Counts.{DiskCounts};
-ghost use Rattle.base_build.specs.Judging.{Judges};
+ghost use Rattle.base_build.specs.Judging.{IsOfReading, Judges};
 
 use crate::fault::of_read;
 use crate::point::{Point, take_point};
@@ -31,6 +31,7 @@ pub fn judge<D: Disk>(
     requires room { head.capacity ≡ 16384 }
     ensures judges { OfJournal (D.seen disk.old) (kept journal.old) (λ j. head.bytes ≡ j.header.head → Judges at j result) }
     ensures clock { IfOk result (λ p. p.machine.state.devices.clock ≡ None) }
+    ensures cause { IfErr result IsOfReading }
     ensures kept { kept journal.new ≡ kept journal.old }
     ensures reads { OnlyReads D.seen D.may_leave D.moment D.left_since disk.old disk.new }
     ensures disk { DiskCounts (D.faults disk.old) (D.faults disk.new) result }
