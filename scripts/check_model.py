@@ -446,7 +446,7 @@ SAMPLES = {0: (636, 3819846, 44), 7: (636, 3820987, 44), 8: (636, 3815730, 44), 
 
 def sample_text(seed):
     entries, steps, out = SAMPLES[seed]
-    return ("sample seed %d\nsample entries %d snaps 3 leaves 301 steps %d\nsegment 1 accepted\nsegment 2 accepted\n"
+    return ("sample seed %d\nentries %d snaps 3 leaves 301 steps %d\nsegment 1 accepted\nsegment 2 accepted\n"
             "cheat fault replay %d\ncheck stands\nrebut forged 0\n" % (seed, entries, steps, out))
 
 

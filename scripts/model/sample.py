@@ -124,7 +124,7 @@ def converse(recorder, peer, source):
 def told(n, recorder, key):
     journal = recorder.journal
     snaps = [f[0] for f in journal.frames() if f[1] == SNAP]
-    lines = ["sample seed %d" % n, "sample entries %d snaps %d leaves %d steps %d" % (journal.last, len(snaps), journal.used(),
+    lines = ["sample seed %d" % n, "entries %d snaps %d leaves %d steps %d" % (journal.last, len(snaps), journal.used(),
                                                                                       recorder.m.count)]
     if len(snaps) != 3 or journal.used() != 301:
         return lines, 2

@@ -118,7 +118,7 @@ seed_line seed = codes "sample seed " ++ decimal seed
 
 abbrev pub numbers_line : Subject → List ℕ
 numbers_line x =
-    codes "sample entries " ++ (decimal (last_of (journal x)) ++ (codes " snaps " ++ (decimal (snap_count x)
+    codes "entries " ++ (decimal (last_of (journal x)) ++ (codes " snaps " ++ (decimal (snap_count x)
     ++ (codes " leaves " ++ (decimal (used (journal x)) ++ (codes " steps " ++ decimal x.last.recording.machine.count))))))
 
 -- a verdict; of an accepted segment the word alone
