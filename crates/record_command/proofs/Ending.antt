@@ -1,6 +1,8 @@
 -- How recording comes to its lines and its status.
-use Rattle.std.proofs.Common.{◌≡◌, ◌≢◌, ◌⊎◌, ◌≤◌, ℕ, List, [], Option, Some, None, inl, inr, refl, sym, ap, subst, ◌∙◌}
+use Rattle.std.proofs.Common.{◌≡◌, ◌≢◌, ◌⊎◌, ◌≤◌, ℕ, List, [], ◌∷◌, ◌++◌, Option, Some, None, inl, inr, refl, sym, ap, subst, ◌∙◌}
 use Rattle.std.specs.Prelude.{IfSome, Result, Ok, Err}
+use Rattle.std.specs.List.{concat}
+use Rattle.std.specs.Option.{option_map}
 use Rattle.std.specs.Result.{IsErrOf}
 use Rattle.avm_model.specs.Keys.{KeyData}
 use Rattle.avm_outside.specs.Outside.{Rises}
@@ -13,14 +15,16 @@ use Rattle.command_parts.specs.declared.fault.Fault.TheVariants as fault
 use Rattle.command_parts.proofs.Joined.{printed_on}
 use Rattle.file_outlet.specs.RunFiles.{Held}
 use Rattle.format_command.specs.Outcomes.{Counted}
+use Rattle.journal_model.specs.Saving.{NoLeaf, NoRoom}
 use Rattle.record_model.specs.Recorded.{Drop}
 use Rattle.record_run.specs.Lines.{drop_lines}
 use Rattle.record_command.specs.Counts.{DiskCounts, FileCounts, SaysBy}
-use Rattle.record_command.specs.Ends.{status_of}
+use Rattle.record_command.specs.Ends.{status_of, text_of}
 use Rattle.record_command.specs.Inputs.{Found, AreFound, RefusesFile, Tells}
-use Rattle.record_command.specs.Meaning.{IsDone, RecordMeans, StandsFrom}
+use Rattle.record_command.specs.Meaning.{IsCut, IsDone, IsTurnedAway, RecordMeans, StandsFrom}
 use Rattle.record_command.specs.Outcomes.{Names, Outcome, Ended, NoMemory, FaultFiles, FaultDisk, FaultSink, CountsFaults, IsOutcome, Reaches, RecordEnds, Says, inputs, last_lines, outputs, status_of_outcome}
-use Rattle.record_command.specs.Runs.{Leaves, StandsOn}
+use Rattle.record_command.specs.Runs.{Leaves, StandsOn, Untouched}
+use Rattle.record_command.specs.Stores.{RefusesStore}
 use Rattle.record_command.specs.declared.ends.End.{End}
 use Rattle.record_command.specs.declared.ends.End.TheVariants.{Recorded, RefusedFile, RefusedNoStore, RefusedDamaged, RefusedRetired, RefusedKey, RefusedJournal, RefusedLeaves, RefusedFull}
 use Rattle.record_command.specs.declared.ends.FileOption.{FileOption}
@@ -234,8 +238,47 @@ done_by names old new was now images quiet c before after result (FaultFiles, f,
 done_by names old new was now images quiet c before after result (FaultDisk, f, drops, found, reach, counts, inl p) z = absurd (let h : 4 ≡ 0 = sym p.0 ∙ z in cc)
 done_by names old new was now images quiet c before after result (FaultDisk, f, drops, found, reach, counts, inr p) z = absurd (let h : 4 ≡ 0 = sym p.0 ∙ z in cc)
 
+-- ---- what 2 says
+
+-- the store isn't opened
+away : (names : Names) (old new : FileMap) (was now : Option (List ℕ)) (before after : Option (List ℕ)) (f : Found) (k : KeyData) (s : ScriptData) (end : End) (drops : List Drop) → AreFound (inputs names) old f → Tells f k s → Untouched (outputs names old) (outputs names new) was now drops → IfSome was (λ w. RefusesStore k w end)
+    → after ≡ option_map (λ out. out ++ concat (drop_lines drops ++ line (text_of end) ∷ [])) before → IsTurnedAway names old new was now before after
+away names old new was now before after f k s end drops found tells stays refuses printed = record {
+  found = f;
+  key = k;
+  script = s;
+  end = end;
+  are_found = found;
+  tells = tells;
+  refuses = refuses;
+  disk = stays.disk;
+  files = ap (λ (h : Held). h.files) stays.files;
+  printed = subst (λ (ds : List Drop). after ≡ option_map (λ out. out ++ concat (drop_lines ds ++ line (text_of end) ∷ [])) before) stays.none printed;
+}
+
+refused_by : (names : Names) (old new : FileMap) (was now : Option (List ℕ)) (images : List ℕ → Type 0) (quiet : Type 0) (c : Counted) (before after : Option (List ℕ)) (result : ℕ) → RecordEnds names old new was now images quiet c before after result → result ≡ 2 → IsTurnedAway names old new was now before after ⊎ IsCut names old new was now images before after
+refused_by names old new was now images quiet c before after result (FaultSink, f, drops, found, reach, counts, says) z = absurd (let h : 4 ≡ 2 = sym says.0 ∙ z in cc)
+refused_by names old new was now images quiet c before after result (Ended (Recorded summary), f, drops, found, reach, counts, inl p) z = absurd (let h : 0 ≡ 2 = sym p.0 ∙ z in cc)
+refused_by names old new was now images quiet c before after result (Ended (RefusedFile option), f, drops, found, reach, counts, inl p) z = absurd (let h : 3 ≡ 2 = sym p.0 ∙ z in cc)
+refused_by names old new was now images quiet c before after result (Ended RefusedNoStore, f, drops, found, reach, counts, inl p) z = inl (away names old new was now before after f reach.0 reach.1 RefusedNoStore drops found reach.2 reach.3.0 reach.3.1 p.1.1)
+refused_by names old new was now images quiet c before after result (Ended (RefusedDamaged n), f, drops, found, reach, counts, inl p) z = inl (away names old new was now before after f reach.0 reach.1 (RefusedDamaged n) drops found reach.2 reach.3.0 reach.3.1 p.1.1)
+refused_by names old new was now images quiet c before after result (Ended RefusedRetired, f, drops, found, reach, counts, inl p) z = inl (away names old new was now before after f reach.0 reach.1 RefusedRetired drops found reach.2 reach.3.0 reach.3.1 p.1.1)
+refused_by names old new was now images quiet c before after result (Ended RefusedKey, f, drops, found, reach, counts, inl p) z = inl (away names old new was now before after f reach.0 reach.1 RefusedKey drops found reach.2 reach.3.0 reach.3.1 p.1.1)
+refused_by names old new was now images quiet c before after result (Ended (RefusedJournal n), f, drops, found, reach, counts, inl p) z = inl (away names old new was now before after f reach.0 reach.1 (RefusedJournal n) drops found reach.2 reach.3.0 reach.3.1 p.1.1)
+refused_by names old new was now images quiet c before after result (Ended RefusedLeaves, f, drops, found, reach, counts, inl p) z =
+    inr (record { found = f; key = reach.0; script = reach.1; drops = drops; stop = NoLeaf; are_found = found; tells = reach.2; records = reach.3; printed = p.1.1 })
+refused_by names old new was now images quiet c before after result (Ended RefusedFull, f, drops, found, reach, counts, inl p) z =
+    inr (record { found = f; key = reach.0; script = reach.1; drops = drops; stop = NoRoom; are_found = found; tells = reach.2; records = reach.3; printed = p.1.1 })
+refused_by names old new was now images quiet c before after result (Ended e, f, drops, found, reach, counts, inr p) z = absurd (let h : 4 ≡ 2 = sym p.0 ∙ z in cc)
+refused_by names old new was now images quiet c before after result (NoMemory, f, drops, found, reach, counts, inl p) z = absurd (let h : 5 ≡ 2 = sym p.0 ∙ z in cc)
+refused_by names old new was now images quiet c before after result (NoMemory, f, drops, found, reach, counts, inr p) z = absurd (let h : 4 ≡ 2 = sym p.0 ∙ z in cc)
+refused_by names old new was now images quiet c before after result (FaultFiles, f, drops, found, reach, counts, inl p) z = absurd (let h : 4 ≡ 2 = sym p.0 ∙ z in cc)
+refused_by names old new was now images quiet c before after result (FaultFiles, f, drops, found, reach, counts, inr p) z = absurd (let h : 4 ≡ 2 = sym p.0 ∙ z in cc)
+refused_by names old new was now images quiet c before after result (FaultDisk, f, drops, found, reach, counts, inl p) z = absurd (let h : 4 ≡ 2 = sym p.0 ∙ z in cc)
+refused_by names old new was now images quiet c before after result (FaultDisk, f, drops, found, reach, counts, inr p) z = absurd (let h : 4 ≡ 2 = sym p.0 ∙ z in cc)
+
 pub means : (names : Names) (old new : FileMap) (was now : Option (List ℕ)) (images : List ℕ → Type 0) (quiet : Type 0) (c : Counted) (before after : Option (List ℕ)) (result : ℕ) → RecordEnds names old new was now images quiet c before after result → RecordMeans names old new was now images before after result
-means names old new was now images quiet c before after result ends = record { done = done_by names old new was now images quiet c before after result ends }
+means names old new was now images quiet c before after result ends = record { done = done_by names old new was now images quiet c before after result ends; refused = refused_by names old new was now images quiet c before after result ends }
 
 -- ---- at any moment
 

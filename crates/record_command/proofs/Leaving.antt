@@ -27,9 +27,10 @@ use Rattle.record_turn.specs.Desk.{rows_of}
 use Rattle.record_turn.specs.declared.desk.Desk.{Desk}
 use Rattle.recorder.specs.Recorder.{desk_of, stop_of}
 use Rattle.recorder.specs.declared.recorder.Recorder.{Recorder}
-use Rattle.record_run.specs.Ends.{Says}
+use Rattle.record_run.specs.Ends.{Says, WhereCut}
+use Rattle.record_store.specs.Saving.{StandsStill}
 use Rattle.record_command.specs.Counts.{SaysBy, end_by}
-use Rattle.record_command.specs.Runs.{Any, Leaves, OnStore, Records, StandsOn, Summed, Sums, sender}
+use Rattle.record_command.specs.Runs.{Leaves, OnStore, Records, Stands, StandsOn, Summed, Sums, sender}
 use Rattle.record_command.specs.Stores.{OpensTo}
 use Rattle.record_command.specs.declared.ends.End.TheVariants.{Recorded}
 use Rattle.record_command.specs.declared.ends.Summary.{Summary}
@@ -89,40 +90,44 @@ done_leaves moment left_since x y before images d b s n rows batch machine old n
     (records d before w s None old new drops (record { journal = l.next; batch = batch; machine = machine }) (Summed images nw drops summary) o (summed n images nw l.next batch machine drops summary none l.desk.own sums is) l.is)
 
 pub stop_leaves : {D : Type 0} (moment : D → ℕ) (left_since : D → ℕ → List ℕ → Type 0) (x y : D) (before images : List ℕ → Type 0) (d : Desk) (b : List Part) (s : ScriptData) (n : Kept) (rows : List KeptRow) (batch : List Part) (machine : State) (old new : Held) (drops : List Drop) (stop : RunStop) (was now : Option (List ℕ))
-    → b ≡ [] → IfSome was (λ w. OpensTo d.press.key before w d) → BothTold was now (Ran moment left_since x y before images d b s n rows batch machine old new drops (Err stop))
+    → b ≡ [] → IfSome was (λ w. OpensTo d.press.key before w d) → BothTold was now (Ran moment left_since x y before images d b s n rows batch machine old new drops (Err stop)) → WhereCut {T = ℕ} (Err stop) (StandsStill n images now)
     → Leaves d.press.key s old new was now images drops (end_by stop)
-stop_leaves {D} moment left_since x y before images d b s n rows batch machine old new drops stop was now empty o both =
-    go stop was now o (subst (λ (b : List Part). BothTold was now (Ran moment left_since x y before images d b s n rows batch machine old new drops (Err stop))) empty both)
+stop_leaves {D} moment left_since x y before images d b s n rows batch machine old new drops stop was now empty o both still =
+    go stop was now o (subst (λ (b : List Part). BothTold was now (Ran moment left_since x y before images d b s n rows batch machine old new drops (Err stop))) empty both) still
   where
-    go : (stop : RunStop) (was now : Option (List ℕ)) → IfSome was (λ w. OpensTo d.press.key before w d) → BothTold was now (Ran moment left_since x y before images d [] s n rows batch machine old new drops (Err stop)) → Leaves d.press.key s old new was now images drops (end_by stop)
-    go LeavesSpent None None o both = tt
-    go LeavesSpent None (Some nw) o both = both
-    go LeavesSpent (Some w) None o both = both
-    go LeavesSpent (Some w) (Some nw) o both =
+    -- the journal that the disk is the own one of is the recorded one
+    standing : (nw : List ℕ) (j : JournalData) → StandsStill n images (Some nw) → IsOwn n images nw j → Stands images nw (record { journal = j; batch = batch; machine = machine })
+    standing nw j still own = let s = still j own in record { read = s.0; left = s.1 }
+
+    go : (stop : RunStop) (was now : Option (List ℕ)) → IfSome was (λ w. OpensTo d.press.key before w d) → BothTold was now (Ran moment left_since x y before images d [] s n rows batch machine old new drops (Err stop)) → WhereCut {T = ℕ} (Err stop) (StandsStill n images now) → Leaves d.press.key s old new was now images drops (end_by stop)
+    go LeavesSpent None None o both still = tt
+    go LeavesSpent None (Some nw) o both still = both
+    go LeavesSpent (Some w) None o both still = both
+    go LeavesSpent (Some w) (Some nw) o both still =
         let l = both o.journal (desk_of_opened d.press.key before w d o) in
-        on_store before w d (Records d.press.key s (Some NoLeaf) old new drops Any) o (records d before w s (Some NoLeaf) old new drops (record { journal = l.next; batch = batch; machine = machine }) Any o tt l.is)
-    go Full None None o both = tt
-    go Full None (Some nw) o both = both
-    go Full (Some w) None o both = both
-    go Full (Some w) (Some nw) o both =
+        on_store before w d (Records d.press.key s (Some NoLeaf) old new drops (Stands images nw)) o (records d before w s (Some NoLeaf) old new drops (record { journal = l.next; batch = batch; machine = machine }) (Stands images nw) o (standing nw l.next still l.desk.own) l.is)
+    go Full None None o both still = tt
+    go Full None (Some nw) o both still = both
+    go Full (Some w) None o both still = both
+    go Full (Some w) (Some nw) o both still =
         let l = both o.journal (desk_of_opened d.press.key before w d o) in
-        on_store before w d (Records d.press.key s (Some NoRoom) old new drops Any) o (records d before w s (Some NoRoom) old new drops (record { journal = l.next; batch = batch; machine = machine }) Any o tt l.is)
-    go DiskFault None None o both = inr tt
-    go DiskFault None (Some nw) o both = inr both
-    go DiskFault (Some w) None o both = inr both
-    go DiskFault (Some w) (Some nw) o both =
+        on_store before w d (Records d.press.key s (Some NoRoom) old new drops (Stands images nw)) o (records d before w s (Some NoRoom) old new drops (record { journal = l.next; batch = batch; machine = machine }) (Stands images nw) o (standing nw l.next still l.desk.own) l.is)
+    go DiskFault None None o both still = inr tt
+    go DiskFault None (Some nw) o both still = inr both
+    go DiskFault (Some w) None o both still = inr both
+    go DiskFault (Some w) (Some nw) o both still =
         let l = both o.journal (desk_of_opened d.press.key before w d o) in
         inr (on_store before w d (λ j m. (after : Recording) × Unsaved adding_piece (sender d.press.key m) (begun j m (agenda_of s)) drops old new after) o (record { journal = l.next; batch = batch; machine = machine }, l.is))
-    go OutletFault None None o both = tt
-    go OutletFault None (Some nw) o both = both
-    go OutletFault (Some w) None o both = both
-    go OutletFault (Some w) (Some nw) o both =
+    go OutletFault None None o both still = tt
+    go OutletFault None (Some nw) o both still = both
+    go OutletFault (Some w) None o both still = both
+    go OutletFault (Some w) (Some nw) o both still =
         let l = both o.journal (desk_of_opened d.press.key before w d o) in
         on_store before w d (λ j m. (after : Recording) × Torn adding_piece TornPiece (sender d.press.key m) (begun j m (agenda_of s)) drops old new after) o (record { journal = l.next; batch = batch; machine = machine }, l.is)
-    go SinkFault None None o both = tt
-    go SinkFault None (Some nw) o both = both
-    go SinkFault (Some w) None o both = both
-    go SinkFault (Some w) (Some nw) o both =
+    go SinkFault None None o both still = tt
+    go SinkFault None (Some nw) o both still = both
+    go SinkFault (Some w) None o both still = both
+    go SinkFault (Some w) (Some nw) o both still =
         let l = both o.journal (desk_of_opened d.press.key before w d o) in
         on_store before w d (λ j m. (after : Recording) × Unprinted adding_piece (sender d.press.key m) (begun j m (agenda_of s)) drops old new after) o (record { journal = l.next; batch = batch; machine = machine }, l.is)
 

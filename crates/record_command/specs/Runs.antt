@@ -67,9 +67,9 @@ pub record Summed (images : List ℕ → Type 0) (now : List ℕ) (drops : List 
   pub sums : Sums (standing r.journal) r.machine s
   pub dropped : s.dropped ≡ length drops
 
--- nothing is said of what a run leaves
-abbrev pub Any : Recording → Type 0
-Any r = Unit {0}
+-- the disk stands for the recorded journal, in a read and in each image that a crash may leave
+abbrev pub Stands : (List ℕ → Type 0) → List ℕ → Recording → Type 0
+Stands images now r = StandsFor r.journal images now
 
 -- what a fault leaves of a run from an opened journal
 abbrev pub Unsaves : KeyData → ScriptData → Held → Held → List Drop → JournalData → State → Type 0
@@ -91,8 +91,8 @@ pub record Untouched (old new : Held) (was now : Option (List ℕ)) (drops : Lis
 -- the images that a crash may leave then, and the events that were dropped.
 abbrev pub Leaves : KeyData → ScriptData → Held → Held → Option (List ℕ) → Option (List ℕ) → (List ℕ → Type 0) → List Drop → Result End Fault → Type 0
 Leaves k s old new was now images drops (Ok (Recorded summary)) = BothTold was now (λ w n. OnStore k w (Records k s None old new drops (Summed images n drops summary)))
-Leaves k s old new was now images drops (Ok RefusedLeaves) = BothTold was now (λ w n. OnStore k w (Records k s (Some NoLeaf) old new drops Any))
-Leaves k s old new was now images drops (Ok RefusedFull) = BothTold was now (λ w n. OnStore k w (Records k s (Some NoRoom) old new drops Any))
+Leaves k s old new was now images drops (Ok RefusedLeaves) = BothTold was now (λ w n. OnStore k w (Records k s (Some NoLeaf) old new drops (Stands images n)))
+Leaves k s old new was now images drops (Ok RefusedFull) = BothTold was now (λ w n. OnStore k w (Records k s (Some NoRoom) old new drops (Stands images n)))
 Leaves k s old new was now images drops (Ok (RefusedFile option)) = ⊥
 Leaves k s old new was now images drops (Ok end) = Untouched old new was now drops × IfSome was (λ w. RefusesStore k w end)
 Leaves k s old new was now images drops (Err fault.NoMemory) = Untouched old new was now drops

@@ -7,8 +7,9 @@ ghost use Rattle.journal_model.specs.Journal.{JournalData};
 ghost use Rattle.jrnl_store.specs.Kept.{kept as kept_of};
 ghost use Rattle.record_model.specs.Recorded.{Drop, running};
 ghost use Rattle.record_ready.specs.Ready.{IsDeskOf};
-ghost use Rattle.record_run.specs.Ends.{DiskEnds, OutletEnds, Says, stop_for};
+ghost use Rattle.record_run.specs.Ends.{DiskEnds, OutletEnds, Says, WhereCut, stop_for};
 ghost use Rattle.record_run.specs.Runs.{HasDesk, LeftBy, RunEnds, sender_of};
+ghost use Rattle.record_store.specs.Saving.{StandsStill};
 ghost use Rattle.record_turn.specs.Desk.{rows_of};
 ghost use Rattle.recorder.specs.Recorder.{desk_of, stop_of};
 ghost use Rattle.record_command.specs.Runs.{held_of};
@@ -51,6 +52,7 @@ pub fn run_on_files<F: Files, D: Disk, S: Sink>(
     ensures others { (n : List ℕ) → n ≢ names.entry.packets.now → n ≢ names.entry.console.now → n ≢ names.entry.auths.now → F.file files.new n ≡ F.file files.old n }
     ensures disk_faults { DiskEnds result (D.faults disk.old) (D.faults disk.new) }
     ensures file_faults { OutletEnds result (F.faults files.old) (F.faults files.new) }
+    ensures unsaved { WhereCut result (StandsStill (kept_of (desk_of recorder.new).store.journal) (D.may_leave disk.new) (D.seen disk.new)) }
 {
     let feed = ScriptFeed::new(script);
     let mut outlet = FileOutlet::new(files, names.packets, names.console, names.auths);

@@ -12,6 +12,7 @@ ghost use Rattle.record_kept.specs.Again.{IsTicketOf};
 ghost use Rattle.record_model.specs.Released.{packet_of};
 ghost use Rattle.record_packets.specs.Again.{AgainAs, packet_as};
 ghost use Rattle.record_parts.specs.Outs.{packet_by};
+ghost use Rattle.record_store.specs.Saving.{StandsStill, WhereUnsaved};
 ghost use Rattle.record_turn.specs.Leaves.{DiskCounts, OutletCounts};
 
 use avm_num::are_bytes;
@@ -75,6 +76,7 @@ pub fn release_again<D: Disk, O: Outlet>(
     ensures disk_faults { DiskCounts (D.faults disk.old) (D.faults disk.new) result }
     ensures outlet_faults { OutletCounts (O.faults outlet.old) (O.faults outlet.new) result }
     ensures loan { O.loan outlet.new ≡ O.loan outlet.old }
+    ensures unsaved { WhereUnsaved result (StandsStill (kept_of store.new.journal) (D.may_leave disk.new) (D.seen disk.new)) }
 {
     let sought = match store.journal.seek_frame(disk, &parcel.ticket) {
         Ok(sought) => sought,

@@ -11,6 +11,7 @@ ghost use Rattle.record_batch.specs.Batch.{BatchData};
 ghost use Rattle.record_model.specs.Recording.{TakeIn};
 ghost use Rattle.record_packets.specs.Coming.{Came};
 ghost use Rattle.record_store.specs.Open.{IsSame};
+ghost use Rattle.record_store.specs.Saving.{StandsStill, WhereUnsaved};
 ghost use Rattle.record_turn.specs.Desk.{HasDisk, IsReady};
 ghost use Rattle.record_turn.specs.Keeping.{aside_of};
 ghost use Rattle.record_turn.specs.Leaves.{Acted, DiskCounts, IsPlain, Leaves, OnOutlet, OutletCounts};
@@ -43,6 +44,7 @@ pub fn acknowledge<D: Disk, O: Outlet>(
     ensures disk_faults { DiskCounts (D.faults disk.old) (D.faults disk.new) result }
     ensures outlet_faults { OutletCounts (O.faults outlet.old) (O.faults outlet.new) result }
     ensures run { OnOutlet result ((kept_of desk.new.store.journal).stop ≡ None) }
+    ensures unsaved { WhereUnsaved result (StandsStill (kept_of desk.new.store.journal) (D.may_leave disk.new) (D.seen disk.new)) }
     ensures loan { O.loan outlet.new ≡ O.loan outlet.old }
 {
     let ticket = match desk.store.save(disk) {

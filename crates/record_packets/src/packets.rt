@@ -11,6 +11,7 @@ ghost use Rattle.record_kept.specs.Tickets.{AreKeptOf};
 ghost use Rattle.record_model.specs.Recording.{SendAgain, TakeIn};
 ghost use Rattle.record_model.specs.Released.{repeated_from, resend_refusal};
 ghost use Rattle.record_store.specs.Open.{IsSame};
+ghost use Rattle.record_store.specs.Saving.{StandsStill, WhereUnsaved};
 ghost use Rattle.record_turn.specs.Desk.{HasDisk, IsReady, rows_of};
 ghost use Rattle.record_turn.specs.Keeping.{aside_of};
 ghost use Rattle.record_turn.specs.Leaves.{Acted, DiskCounts, IsPlain, Leaves, OnOutlet, OutletCounts};
@@ -74,6 +75,7 @@ pub fn send_again<D: Disk, O: Outlet>(
     ensures disk_faults { DiskCounts (D.faults disk.old) (D.faults disk.new) result }
     ensures outlet_faults { OutletCounts (O.faults outlet.old) (O.faults outlet.new) result }
     ensures run { OnOutlet result ((kept_of desk.new.store.journal).stop ≡ None) }
+    ensures unsaved { WhereUnsaved result (StandsStill (kept_of desk.new.store.journal) (D.may_leave disk.new) (D.seen disk.new)) }
     ensures loan { O.loan outlet.new ≡ O.loan outlet.old }
 {
     let Some(ticket) = desk.kept.outstanding(&desk.machine, peer) else {
@@ -114,6 +116,7 @@ pub(crate) fn drop_packet<D: Disk, O: Outlet>(
     ensures disk_faults { DiskCounts (D.faults disk.old) (D.faults disk.new) result }
     ensures outlet_faults { OutletCounts (O.faults outlet.old) (O.faults outlet.new) result }
     ensures run { OnOutlet result ((kept_of desk.new.store.journal).stop ≡ None) }
+    ensures unsaved { WhereUnsaved result (StandsStill (kept_of desk.new.store.journal) (D.may_leave disk.new) (D.seen disk.new)) }
     ensures loan { O.loan outlet.new ≡ O.loan outlet.old }
 {
     desk.machine.bounds();

@@ -4,3 +4,4 @@ pub mod Saying
 pub mod SealLeft
 pub mod Telling
 pub mod TurnLeft
+pub mod Cutting

@@ -43,3 +43,12 @@ stop_for (Err Full) = Some stop.Full
 stop_for (Err DiskFault) = Some stop.DiskFault
 stop_for (Err OutletFault) = Some stop.OutletFault
 stop_for (Err SinkFault) = None
+
+-- what holds where a batch that can't be saved ended the run
+abbrev pub WhereCut : {T : Type 0} → Result T RunStop → Type 0 → Type 0
+WhereCut (Ok x) P = Unit {0}
+WhereCut (Err LeavesSpent) P = P
+WhereCut (Err Full) P = P
+WhereCut (Err DiskFault) P = Unit {0}
+WhereCut (Err OutletFault) P = Unit {0}
+WhereCut (Err SinkFault) P = Unit {0}

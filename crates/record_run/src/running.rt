@@ -7,11 +7,12 @@ ghost use Rattle.journal_model.specs.Journal.{JournalData};
 ghost use Rattle.jrnl_store.specs.Kept.{kept as kept_of};
 ghost use Rattle.record_model.specs.Recorded.{Drop, running};
 ghost use Rattle.record_ready.specs.Ready.{IsDeskOf};
-ghost use Rattle.record_run.specs.Ends.{DiskEnds, OutletEnds, Says, stop_for};
+ghost use Rattle.record_run.specs.Ends.{DiskEnds, OutletEnds, Says, WhereCut, stop_for};
 ghost use Rattle.record_run.specs.Feeds.{sure_agenda};
 ghost use Rattle.record_run.specs.Runs.{HasDesk, LeftBy, RunEnds, sender_of};
 ghost use Rattle.record_run.specs.Turned.{TurnsEnd};
 ghost use Rattle.record_store.specs.Open.{IsSame};
+ghost use Rattle.record_store.specs.Saving.{StandsStill};
 ghost use Rattle.record_turn.specs.Desk.{rows_of};
 ghost use Rattle.recorder.specs.Recorder.{desk_of, stop_of};
 
@@ -43,6 +44,7 @@ fn turns<D: Disk, O: Outlet, S: Sink>(
     ensures disk_faults { DiskEnds result (D.faults disk.old) (D.faults disk.new) }
     ensures outlet_faults { OutletEnds result (O.faults outlet.old) (O.faults outlet.new) }
     ensures loan { O.loan outlet.new ≡ O.loan outlet.old }
+    ensures unsaved { WhereCut result (StandsStill (kept_of (desk_of recorder.new).store.journal) (D.may_leave disk.new) (D.seen disk.new)) }
 {
     let mut drops = 0;
     // each turn makes a step or takes an event, and no script has so many: the range is never used up
@@ -84,6 +86,7 @@ pub fn run<D: Disk, O: Outlet, S: Sink>(
     ensures disk_faults { DiskEnds result (D.faults disk.old) (D.faults disk.new) }
     ensures outlet_faults { OutletEnds result (O.faults outlet.old) (O.faults outlet.new) }
     ensures loan { O.loan outlet.new ≡ O.loan outlet.old }
+    ensures unsaved { WhereCut result (StandsStill (kept_of (desk_of recorder.new).store.journal) (D.may_leave disk.new) (D.seen disk.new)) }
 {
     let mut feed = SureFeed::new(feed);
     let drops = match turns(recorder, disk, &mut feed, outlet, out) {

@@ -7,10 +7,11 @@ ghost use Rattle.jrnl_store.specs.Kept.{kept as kept_of};
 ghost use Rattle.record_model.specs.Recorded.{HasEnded, Run};
 ghost use Rattle.record_ready.specs.Ready.{IsDeskOf};
 ghost use Rattle.record_run.specs.declared.stops.RunStop.TheVariants as run_stop;
-ghost use Rattle.record_run.specs.Ends.{DiskEnds, OutletEnds, stop_for};
+ghost use Rattle.record_run.specs.Ends.{DiskEnds, OutletEnds, WhereCut, stop_for};
 ghost use Rattle.record_run.specs.Runs.{HasDesk, sender_of};
 ghost use Rattle.record_run.specs.Turned.{LeftByOne, SealEnds, sealed_by};
 ghost use Rattle.record_store.specs.Open.{IsSame};
+ghost use Rattle.record_store.specs.Saving.{StandsStill};
 ghost use Rattle.record_turn.specs.Desk.{rows_of};
 ghost use Rattle.recorder.specs.Recorder.{desk_of, stop_of};
 
@@ -55,6 +56,7 @@ pub fn seal<D: Disk, O: Outlet>(
     ensures disk_faults { DiskEnds result (D.faults disk.old) (D.faults disk.new) }
     ensures outlet_faults { OutletEnds result (O.faults outlet.old) (O.faults outlet.new) }
     ensures loan { O.loan outlet.new ≡ O.loan outlet.old }
+    ensures unsaved { WhereCut result (StandsStill (kept_of (desk_of recorder.new).store.journal) (D.may_leave disk.new) (D.seen disk.new)) }
 {
     let answer = recorder.seal(disk, outlet);
     outcome(answer, drops)

@@ -8,13 +8,14 @@ ghost use Rattle.jrnl_store.specs.declared.fault.Stop.TheVariants as stops;
 ghost use Rattle.record_model.specs.Recorded.{Drop, Run};
 ghost use Rattle.record_parts.specs.declared.answers.Turn.TheVariants as turns;
 ghost use Rattle.record_ready.specs.Ready.{IsDeskOf};
-ghost use Rattle.record_run.specs.Ends.{DiskEnds, OutletEnds, stop_for};
+ghost use Rattle.record_run.specs.Ends.{DiskEnds, OutletEnds, WhereCut, stop_for};
 ghost use Rattle.record_run.specs.Feeds.{sure_agenda};
 ghost use Rattle.record_run.specs.Lines.{drop_lines};
 ghost use Rattle.record_run.specs.Runs.{HasDesk, sender_of};
 ghost use Rattle.record_run.specs.Turned.{LeftByOne, SaysTurn, TurnEnds, drops_by, stopped_by, turned_by};
 ghost use Rattle.record_run.specs.declared.stops.RunStop.TheVariants as run_stop;
 ghost use Rattle.record_store.specs.Open.{IsSame};
+ghost use Rattle.record_store.specs.Saving.{StandsStill};
 ghost use Rattle.record_turn.specs.Desk.{rows_of};
 ghost use Rattle.recorder.specs.Recorder.{desk_of, stop_of};
 ghost use Rattle.command_parts.specs.Printing.{Prints, PrintsCut};
@@ -85,6 +86,7 @@ fn take_turn<D: Disk, O: Outlet>(
     ensures disk_faults { DiskEnds result (D.faults disk.old) (D.faults disk.new) }
     ensures outlet_faults { OutletEnds result (O.faults outlet.old) (O.faults outlet.new) }
     ensures loan { O.loan outlet.new ≡ O.loan outlet.old }
+    ensures unsaved { WhereCut result (StandsStill (kept_of (desk_of recorder.new).store.journal) (D.may_leave disk.new) (D.seen disk.new)) }
 {
     let turn = recorder.turn(disk, feed, outlet);
     outcome(turn)
@@ -119,6 +121,7 @@ pub fn turn_on<D: Disk, O: Outlet, S: Sink>(
     ensures disk_faults { DiskEnds result (D.faults disk.old) (D.faults disk.new) }
     ensures outlet_faults { OutletEnds result (O.faults outlet.old) (O.faults outlet.new) }
     ensures loan { O.loan outlet.new ≡ O.loan outlet.old }
+    ensures unsaved { WhereCut result (StandsStill (kept_of (desk_of recorder.new).store.journal) (D.may_leave disk.new) (D.seen disk.new)) }
 {
     let count = recorder.machine().count();
     match take_turn(recorder, disk, feed, outlet) {

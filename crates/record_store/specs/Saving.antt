@@ -1,11 +1,12 @@
 -- What saving a batch leaves, on a disk that tells its content.
-use Rattle.std.specs.Prelude.{◌≡◌, ◌⊎◌, ℕ, List, Result, Ok, Err}
+use Rattle.std.specs.Prelude.{◌≡◌, ◌⊎◌, ℕ, List, Option, IfSome, Result, Ok, Err}
 use Rattle.avm_outside.specs.Moments.{LeavesOnly}
 use Rattle.avm_outside.specs.Outside.{Rises}
 use Rattle.journal_model.specs.Journal.{Is, JournalData, journal_of, with_record}
 use Rattle.journal_model.specs.Part.{Part}
 use Rattle.jrnl_store.specs.Kept.{Kept}
 use Rattle.jrnl_store.specs.Own.{IsOwn}
+use Rattle.jrnl_store.specs.Writing.{Each}
 use Rattle.jrnl_store.specs.declared.fault.StoreFault.{StoreFault}
 use Rattle.jrnl_store.specs.declared.fault.StoreFault.TheVariants as fault
 use Rattle.jrnl_store.specs.declared.fault.Stop.{Stop}
@@ -40,3 +41,16 @@ SaveCounts before now (Err Full) = now ≡ before
 SaveCounts before now (Err DiskFault) = Rises before now
 SaveCounts before now (Err OutletFault) = ⊥
 SaveCounts before now (Err FeedFault) = ⊥
+
+-- what holds where a batch was refused: no leaf is left to sign it, or the journal has no room for it
+abbrev pub WhereUnsaved : {T : Type 0} → Result T Stop → Type 0 → Type 0
+WhereUnsaved (Ok x) P = Unit {0}
+WhereUnsaved (Err LeavesSpent) P = P
+WhereUnsaved (Err Full) P = P
+WhereUnsaved (Err DiskFault) P = Unit {0}
+WhereUnsaved (Err OutletFault) P = Unit {0}
+WhereUnsaved (Err FeedFault) P = Unit {0}
+
+-- what the disk tells stands for the journal whose own disk it is, and so does each image that a crash may leave
+abbrev pub StandsStill : Kept → (List ℕ → Type 0) → Option (List ℕ) → Type 0
+StandsStill k images told = IfSome told (λ now. (j : JournalData) → IsOwn k images now j → (journal_of now ≡ Is j) × Each images (λ c. journal_of c ≡ Is j))

@@ -13,7 +13,7 @@ ghost use Rattle.record_model.specs.Recording.{is_none};
 ghost use Rattle.record_parts.specs.Ends.{SavedAs};
 ghost use Rattle.record_parts.specs.Outs.{first_of};
 ghost use Rattle.record_store.specs.Open.{IsOpen, IsSame};
-ghost use Rattle.record_store.specs.Saving.{Holds, SaveCounts, saved_to, why_of};
+ghost use Rattle.record_store.specs.Saving.{Holds, SaveCounts, StandsStill, WhereUnsaved, saved_to, why_of};
 
 use avm_outside::Disk;
 use jrnl_store::{Journal, Stop, StoreFault, Ticket};
@@ -40,7 +40,8 @@ fn why(fault: StoreFault) -> Stop
 
 impl Store {
     /// Saves the batch, which is then empty. Its ticket is that of the item which signs. Where this is refused, the batch
-    /// stays, and the journal has stopped. It takes no memory.
+    /// stays, and the journal has stopped; by `LeavesSpent` and `Full` the disk isn't touched, and stands for the journal as
+    /// before. It takes no memory.
     pub fn save<D: Disk>(&mut self, disk: &mut D) -> Result<Option<Ticket>, Stop>
         requires own { IfSome (D.seen disk.old) (λ was. (j : JournalData) × IsOwn (kept self.old.journal) (D.may_leave disk.old) was j) }
         requires open { IsOpen (kept self.old.journal) self.old.batch }
@@ -56,6 +57,7 @@ impl Store {
         ensures same { IsSame (kept self.old.journal) (kept self.new.journal) }
         ensures ticket { IfOk result (λ t. option_map ticket_view t ≡ first_of (signed_from (kept self.old.journal).standing self.old.batch.parts)) }
         ensures leaf { IfOk result (λ t. IfSome t (λ ticket. (ticket_view ticket).leaf < most_leaves (kept self.old.journal).key)) }
+        ensures unsaved { WhereUnsaved result (StandsStill (kept self.new.journal) (D.may_leave disk.new) (D.seen disk.new)) }
         ensures faults { SaveCounts (D.faults disk.old) (D.faults disk.new) result }
     {
         match self.journal.commit(disk, self.batch.room()) {

@@ -1,15 +1,14 @@
 -- What the writing of a step's outputs leaves of the keeps, and of the marks.
 use Rattle.std.proofs.Common.{◌≡◌, ℕ, zero, suc, ◌+◌, ◌*◌, ◌<◌, Bool, true, false, List, [], ◌∷◌, ◌++◌, length, map, Option, Some, None, refl, sym, ap, subst, ◌∙◌, append_assoc, arith, get_or, inr}
-use Rattle.std.specs.Prelude.{◌==◌, replicate, take}
+use Rattle.std.specs.Prelude.{◌==◌}
 use Rattle.std.proofs.lemmas.List.{append-nil, get_or-replicate}
 use Rattle.avm_num.specs.Walk.{items_of}
-use Rattle.avm_model.specs.Content.{FitsContent, snap}
+use Rattle.avm_model.specs.Content.{snap}
 use Rattle.avm_model.specs.Frame.{FrameData}
 use Rattle.avm_model.specs.Head.{head_bytes}
 use Rattle.avm_model.specs.HeadState.{data_of}
-use Rattle.avm_model.specs.Machine.{MachineState, State, out_send}
+use Rattle.avm_model.specs.Machine.{State, out_send}
 use Rattle.avm_model.specs.Memory.{RamState}
-use Rattle.avm_model.specs.Offer.{Offer, taken}
 use Rattle.avm_model.specs.PageMarks.{MarksPages}
 use Rattle.avm_model.specs.Pages.{page_of}
 use Rattle.avm_model.specs.Reference.{Made, OutAt, SendAt, HaltAt, SnapAt, NothingAt, made_of}

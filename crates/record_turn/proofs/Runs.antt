@@ -1,5 +1,5 @@
 -- Where the outlet failed the journal hasn't stopped.
-use Rattle.std.proofs.Common.{ℕ, Result, Ok, Err}
+use Rattle.std.proofs.Common.{ℕ, Err}
 use Rattle.jrnl_store.specs.declared.fault.Stop.{Stop}
 use Rattle.jrnl_store.specs.declared.fault.Stop.TheVariants.{LeavesSpent, Full, DiskFault, OutletFault, FeedFault}
 use Rattle.record_store.specs.Saving.{SaveCounts}

@@ -12,6 +12,7 @@ ghost use Rattle.record_batch.specs.Batch.{HasPlace, batch_size};
 ghost use Rattle.record_model.specs.Recording.{is_large as is_large_lem};
 ghost use Rattle.record_parts.specs.Outs.{AreQuiet, outs_made};
 ghost use Rattle.record_store.specs.Open.{IsOpen, IsSame};
+ghost use Rattle.record_store.specs.Saving.{StandsStill, WhereUnsaved};
 ghost use Rattle.record_turn.specs.Keeping.{aside_of};
 ghost use Rattle.record_turn.specs.Leaves.{DiskCounts, Finished, Leaves, OnOutlet, OutletCounts};
 
@@ -72,6 +73,7 @@ impl Desk {
         ensures disk_faults { DiskCounts (D.faults disk.old) (D.faults disk.new) result }
         ensures outlet_faults { OutletCounts (O.faults outlet.old) (O.faults outlet.new) result }
         ensures run { OnOutlet result ((kept_of self.new.store.journal).stop ≡ None) }
+        ensures unsaved { WhereUnsaved result (StandsStill (kept_of self.new.store.journal) (D.may_leave disk.new) (D.seen disk.new)) }
         ensures loan { O.loan outlet.new ≡ O.loan outlet.old }
     {
         has_numbers(&self.store);

@@ -12,6 +12,7 @@ ghost use Rattle.jrnl_store.specs.Own.{IsOwn};
 ghost use Rattle.record_model.specs.Recording.{is_none};
 ghost use Rattle.record_parts.specs.Outs.{auth_by};
 ghost use Rattle.record_store.specs.Open.{IsSame};
+ghost use Rattle.record_store.specs.Saving.{StandsStill, WhereUnsaved};
 ghost use Rattle.record_turn.specs.Desk.{HasDisk, IsReady, rows_of};
 ghost use Rattle.record_turn.specs.Leaves.{DiskCounts, IsPlainSeal, Leaves, OnOutlet, OutletCounts, Seals};
 
@@ -64,6 +65,7 @@ impl Desk {
         ensures disk_faults { DiskCounts (D.faults disk.old) (D.faults disk.new) result }
         ensures outlet_faults { OutletCounts (O.faults outlet.old) (O.faults outlet.new) result }
         ensures run { OnOutlet result ((kept_of self.new.store.journal).stop ≡ None) }
+        ensures unsaved { WhereUnsaved result (StandsStill (kept_of self.new.store.journal) (D.may_leave disk.new) (D.seen disk.new)) }
         ensures loan { O.loan outlet.new ≡ O.loan outlet.old }
     {
         match last_seal(&self.store) {

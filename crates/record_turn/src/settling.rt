@@ -10,6 +10,7 @@ ghost use Rattle.record_batch.specs.Batch.{HasPlace};
 ghost use Rattle.record_model.specs.Recording.{TakeIn, is_large as is_large_lem};
 ghost use Rattle.record_parts.specs.Outs.{AreQuiet};
 ghost use Rattle.record_store.specs.Open.{IsOpen, IsSame};
+ghost use Rattle.record_store.specs.Saving.{StandsStill, WhereUnsaved};
 ghost use Rattle.record_turn.specs.Desk.{HasDisk, IsReady, rows_of};
 ghost use Rattle.record_turn.specs.Keeping.{aside_of};
 ghost use Rattle.record_turn.specs.Leaves.{Acted, DiskCounts, IsPlain, Leaves, OnOutlet, OutletCounts, Settled};
@@ -38,6 +39,7 @@ impl Desk {
         ensures disk_faults { DiskCounts (D.faults disk.old) (D.faults disk.new) result }
         ensures outlet_faults { (n : ℕ) → OutletCounts n n result }
         ensures run { OnOutlet result ((kept_of self.new.store.journal).stop ≡ None) }
+        ensures unsaved { WhereUnsaved result (StandsStill (kept_of self.new.store.journal) (D.may_leave disk.new) (D.seen disk.new)) }
     {
         if !self.store.batch.is_large() {
             return Ok(());
@@ -71,6 +73,7 @@ impl Desk {
         ensures disk_faults { DiskCounts (D.faults disk.old) (D.faults disk.new) result }
         ensures outlet_faults { OutletCounts (O.faults outlet.now) (O.faults outlet.now) result }
         ensures run { OnOutlet result ((kept_of self.new.store.journal).stop ≡ None) }
+        ensures unsaved { WhereUnsaved result (StandsStill (kept_of self.new.store.journal) (D.may_leave disk.new) (D.seen disk.new)) }
     {
         has_numbers(&self.store);
         match take_console(&mut self.store.batch, &mut self.machine, bytes) {

@@ -9,6 +9,7 @@ ghost use Rattle.jrnl_store.specs.Own.{IsOwn};
 ghost use Rattle.record_model.specs.Recording.{AnswerClock, StepOn};
 ghost use Rattle.record_model.specs.Turn.{goes_on};
 ghost use Rattle.record_store.specs.Open.{IsSame};
+ghost use Rattle.record_store.specs.Saving.{StandsStill, WhereUnsaved};
 ghost use Rattle.record_turn.specs.Desk.{HasDisk, IsReady};
 ghost use Rattle.record_turn.specs.Keeping.{aside_of};
 ghost use Rattle.record_turn.specs.Leaves.{Acted, DiskCounts, IsPlain, Leaves, OnOutlet, OutletCounts, Spelled};
@@ -46,6 +47,7 @@ impl Desk {
         ensures disk_faults { DiskCounts (D.faults disk.old) (D.faults disk.new) result }
         ensures outlet_faults { OutletCounts (O.faults outlet.old) (O.faults outlet.new) result }
         ensures run { OnOutlet result ((kept_of self.new.store.journal).stop ≡ None) }
+        ensures unsaved { WhereUnsaved result (StandsStill (kept_of self.new.store.journal) (D.may_leave disk.new) (D.seen disk.new)) }
         ensures loan { O.loan outlet.new ≡ O.loan outlet.old }
     {
         self.outs = Outs::none();
@@ -78,6 +80,7 @@ impl Desk {
         ensures disk_faults { DiskCounts (D.faults disk.old) (D.faults disk.new) result }
         ensures outlet_faults { OutletCounts (O.faults outlet.old) (O.faults outlet.new) result }
         ensures run { OnOutlet result ((kept_of self.new.store.journal).stop ≡ None) }
+        ensures unsaved { WhereUnsaved result (StandsStill (kept_of self.new.store.journal) (D.may_leave disk.new) (D.seen disk.new)) }
         ensures loan { O.loan outlet.new ≡ O.loan outlet.old }
     {
         self.outs = Outs::none();
@@ -113,6 +116,7 @@ impl Desk {
         ensures disk_faults { DiskCounts (D.faults disk.old) (D.faults disk.new) result }
         ensures outlet_faults { OutletCounts (O.faults outlet.old) (O.faults outlet.new) result }
         ensures run { OnOutlet result ((kept_of self.new.store.journal).stop ≡ None) }
+        ensures unsaved { WhereUnsaved result (StandsStill (kept_of self.new.store.journal) (D.may_leave disk.new) (D.seen disk.new)) }
         ensures loan { O.loan outlet.new ≡ O.loan outlet.old }
     {
         has_numbers(&self.store);

@@ -8,6 +8,7 @@ ghost use Rattle.jrnl_store.specs.Kept.{kept as kept_of};
 ghost use Rattle.record_model.specs.Turn.{Gift};
 ghost use Rattle.record_ready.specs.Ready.{IsDeskOf, IsSteady};
 ghost use Rattle.record_store.specs.Open.{IsSame};
+ghost use Rattle.record_store.specs.Saving.{StandsStill, WhereUnsaved};
 ghost use Rattle.record_turn.specs.Desk.{HasDisk, IsReady, rows_of};
 ghost use Rattle.record_turn.specs.Keeping.{aside_of};
 ghost use Rattle.record_turn.specs.Leaves.{IsPlain, Leaves, OnOutlet};
@@ -60,6 +61,7 @@ pub fn turn_on<D: Disk, F: Feed, O: Outlet>(
     ensures disk_faults { DiskStops result (D.faults disk.old) (D.faults disk.new) }
     ensures outlet_faults { OutletStops result (O.faults outlet.old) (O.faults outlet.new) }
     ensures run { OnOutlet result ((kept_of desk.new.store.journal).stop ≡ None) }
+    ensures unsaved { WhereUnsaved result (StandsStill (kept_of desk.new.store.journal) (D.may_leave disk.new) (D.seen disk.new)) }
     ensures feed_faults { FeedStops result (F.faults feed.old) (F.faults feed.new) }
     ensures loan { O.loan outlet.new ≡ O.loan outlet.old }
 {

@@ -11,6 +11,7 @@ ghost use Rattle.record_parts.specs.declared.answers.Sealed.TheVariants.{Ended a
 ghost use Rattle.record_parts.specs.declared.answers.Turn.TheVariants.{Ended};
 ghost use Rattle.record_ready.specs.Ready.{IsDeskOf};
 ghost use Rattle.record_store.specs.Open.{IsSame};
+ghost use Rattle.record_store.specs.Saving.{StandsStill, WhereUnsaved};
 ghost use Rattle.record_turn.specs.Desk.{HasDisk, rows_of};
 ghost use Rattle.record_turn.specs.Keeping.{aside_of};
 ghost use Rattle.record_turn.specs.Leaves.{Leaves, OnOutlet, Seals};
@@ -46,6 +47,7 @@ impl Recorder {
         ensures disk_faults { DiskStops (result_of result) (D.faults disk.old) (D.faults disk.new) }
         ensures outlet_faults { OutletStops (result_of result) (O.faults outlet.old) (O.faults outlet.new) }
         ensures run { OnOutlet (result_of result) ((kept_of (desk_of self.new).store.journal).stop ≡ None) }
+        ensures unsaved { WhereUnsaved (result_of result) (StandsStill (kept_of (desk_of self.new).store.journal) (D.may_leave disk.new) (D.seen disk.new)) }
         ensures feed_faults { FeedStops (result_of result) (F.faults feed.old) (F.faults feed.new) }
         ensures loan { O.loan outlet.new ≡ O.loan outlet.old }
     {
@@ -78,6 +80,7 @@ impl Recorder {
         ensures disk_faults { DiskStops (seal_result result) (D.faults disk.old) (D.faults disk.new) }
         ensures outlet_faults { OutletStops (seal_result result) (O.faults outlet.old) (O.faults outlet.new) }
         ensures run { OnOutlet (seal_result result) ((kept_of (desk_of self.new).store.journal).stop ≡ None) }
+        ensures unsaved { WhereUnsaved (seal_result result) (StandsStill (kept_of (desk_of self.new).store.journal) (D.may_leave disk.new) (D.seen disk.new)) }
         ensures loan { O.loan outlet.new ≡ O.loan outlet.old }
     {
         match self.stop {

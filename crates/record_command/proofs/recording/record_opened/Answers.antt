@@ -29,7 +29,7 @@ returns-in-Err-clause-leaves g c =
       r.0,
       stop_says c.in-Err.stop r.0 _ _ _ _ r.1,
       stop_leaves g.D.Disk.moment g.D.Disk.left_since c.args.disk.now c.run_on_files.new.disk (g.D.Disk.may_leave c.args.disk.now) (g.D.Disk.may_leave c.run_on_files.new.disk) (desk_of c.args.recorder.now) (desk_of c.args.recorder.now).store.batch.parts c.args.script (kept_of (desk_of c.run_on_files.new.recorder).store.journal) (rows_of (desk_of c.run_on_files.new.recorder).kept) (desk_of c.run_on_files.new.recorder).store.batch.parts (desk_of c.run_on_files.new.recorder).machine.state (held_of c.args.names.packets.now c.args.names.console.now c.args.names.auths.now (g.F.Files.file c.args.files.now)) (held_of c.args.names.packets.now c.args.names.console.now c.args.names.auths.now (g.F.Files.file c.run_on_files.new.files)) r.0 c.in-Err.stop (g.D.Disk.seen c.args.disk.now) (g.D.Disk.seen c.run_on_files.new.disk)
-          c.requires.empty c.requires.opened r.2,
+          c.requires.empty c.requires.opened r.2 c.in-Err.ensures.unsaved,
     )
 
 pub returns-in-Err-clause-moments : goal.returns-in-Err-clause-moments

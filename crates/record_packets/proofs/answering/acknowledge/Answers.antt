@@ -6,6 +6,7 @@ use Rattle.jrnl_store.specs.Kept.{kept as kept_of, ticket_view}
 use Rattle.jrnl_store.specs.declared.ticket.Ticket.{Ticket}
 use Rattle.record_model.specs.Released.{Sender}
 use Rattle.record_packets.proofs.Comings.{came_few, came_once, came_open, came_short, came_signs, came_some, recv_cut, recv_done, recv_keeps, recv_refused}
+use Rattle.record_store.proofs.Unsaved.{unsaved_alike}
 use Rattle.record_packets.proofs.answering.acknowledge.Goals as goal
 use Rattle.record_parts.specs.Outs.{packet_by, ram_in}
 use Rattle.record_press.specs.Press.{PressData}
@@ -112,3 +113,6 @@ returns-in-Err-clause-run g c = saves_run (Option Ticket) Turn _ _ c.in-Err.stop
 
 pub returns-in-Err-packet-clause-run : goal.returns-in-Err-packet-clause-run
 returns-in-Err-packet-clause-run g c = c.in-Ok-Some.ensures.open.run
+
+pub returns-in-Err-clause-unsaved : goal.returns-in-Err-clause-unsaved
+returns-in-Err-clause-unsaved g c = unsaved_alike (Option Ticket) Turn c.in-Err.stop _ (rw c.in-Err.is at c.save.ensures.unsaved)

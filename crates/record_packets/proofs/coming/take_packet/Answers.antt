@@ -12,6 +12,7 @@ use Rattle.record_machine.specs.Taking.{Takes}
 use Rattle.record_model.specs.Recording.{offer_content}
 use Rattle.record_packets.proofs.Takings.{acted_from, as_offered, packet_clock, packet_ram, told_kept}
 use Rattle.record_packets.specs.Coming.{Came}
+use Rattle.record_store.proofs.Unsaved.{unsaved_alike}
 use Rattle.record_packets.proofs.coming.take_packet.Goals as goal
 use Rattle.record_parts.proofs.Effects.{input_quiet}
 use Rattle.record_parts.specs.Outs.{AreQuiet, ram_in}
@@ -143,3 +144,6 @@ returns-in-Ok-Recv-clause-acts g c =
 
 pub returns-in-Err-settle-clause-run : goal.returns-in-Err-settle-clause-run
 returns-in-Err-settle-clause-run g c = runs_alike (Unit {0}) Turn c.in-Err-settle.stop _ (rw c.in-Err-settle.is at c.settle.ensures.run)
+
+pub returns-in-Err-settle-clause-unsaved : goal.returns-in-Err-settle-clause-unsaved
+returns-in-Err-settle-clause-unsaved g c = unsaved_alike (Unit {0}) Turn c.in-Err-settle.stop _ (rw c.in-Err-settle.is at c.settle.ensures.unsaved)

@@ -6,6 +6,7 @@ use Rattle.record_kept.specs.Tickets.{AreKeptOf}
 use Rattle.record_kept.proofs.Drops.{low_repeated, none_again}
 use Rattle.record_model.specs.Released.{Sender, again_to}
 use Rattle.record_packets.proofs.Parcels.{acted_left, again_own, dropped_again, is_last, some_at, told_read, undropped}
+use Rattle.record_store.proofs.Unsaved.{unsaved_alike}
 use Rattle.record_packets.proofs.packets.drop_packet.Goals as goal
 use Rattle.record_packets.specs.declared.again.Kind.TheVariants.{Ack}
 use Rattle.record_turn.specs.Desk.{rows_of}
@@ -73,3 +74,6 @@ returns-in-Err-clause-acts g c =
 
 pub returns-in-Err-clause-run : goal.returns-in-Err-clause-run
 returns-in-Err-clause-run g c = runs_anyway Turn c.in-Err.stop _ (ap (λ (k : Kept). k.stop) c.release_again.ensures.journal ∙ c.requires.ready.opens.run)
+
+pub returns-in-Err-clause-unsaved : goal.returns-in-Err-clause-unsaved
+returns-in-Err-clause-unsaved g c = unsaved_alike (Unit {0}) Turn c.in-Err.stop _ (rw c.in-Err.is at c.release_again.ensures.unsaved)

@@ -7,6 +7,7 @@ use Rattle.record_kept.specs.Tickets.{AreKeptOf}
 use Rattle.record_kept.proofs.Resends.{is_out, not_found}
 use Rattle.record_model.specs.Released.{Sender, again, outstanding as outstanding_lem, packet_of, read, resend_refusal}
 use Rattle.record_packets.proofs.Parcels.{acted_left, again_own, few_packet, resent, some_at, told_read, unresent, unsent}
+use Rattle.record_store.proofs.Unsaved.{unsaved_alike}
 use Rattle.record_packets.proofs.packets.send_again.Goals as goal
 use Rattle.record_packets.specs.declared.again.Kind.TheVariants.{Data}
 use Rattle.record_turn.specs.Desk.{rows_of}
@@ -63,3 +64,6 @@ returns-in-Err-clause-acts g c =
 
 pub returns-in-Err-clause-run : goal.returns-in-Err-clause-run
 returns-in-Err-clause-run g c = runs_anyway Turn c.in-Err.stop _ (ap (λ (k : Kept). k.stop) c.release_again.ensures.journal ∙ c.requires.ready.opens.run)
+
+pub returns-in-Err-clause-unsaved : goal.returns-in-Err-clause-unsaved
+returns-in-Err-clause-unsaved g c = unsaved_alike (Unit {0}) Turn c.in-Err.stop _ (rw c.in-Err.is at c.release_again.ensures.unsaved)

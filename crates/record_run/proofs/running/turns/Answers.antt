@@ -1,4 +1,4 @@
-use Rattle.std.proofs.Common.{◌<◌, ◌^◌, [], ◌++◌, refl, subst, ◌∙◌, arith}
+use Rattle.std.proofs.Common.{ℕ, ◌<◌, ◌^◌, [], ◌++◌, refl, subst, ◌∙◌, arith}
 use Rattle.avm_model.proofs.HeadBounds.{bounded}
 use Rattle.avm_model.specs.HeadState.{data_of}
 use Rattle.avm_model.specs.Machine.{MachineState}
@@ -8,6 +8,8 @@ use Rattle.record_run.proofs.Telling.{begins, drops_on, few_events, goes_on, is_
 use Rattle.record_run.specs.Feeds.{sure_agenda}
 use Rattle.record_run.specs.Runs.{sender_of}
 use Rattle.record_turn.specs.Desk.{rows_of}
+use Rattle.record_run.proofs.Cutting.{cut_alike}
+use Rattle.record_run.specs.declared.turning.Turned.{Turned}
 use Rattle.record_run.proofs.running.turns.Goals as goal
 
 pub loop-made-init : goal.loop-made-init
@@ -97,3 +99,6 @@ returns-clause-runs g c =
     let i = l.invariant in
     let low = subst (λ (m : MachineState). m.state.count < 2 ^ 62) c.machine.ensures (bounded (data_of c.machine.result.now.state) c.bounds.ensures.head).count in
     (i.so_far.0, (i.so_far.1, i.so_far.2), never_used_up g.D.Disk.seen g.D.Disk.may_leave g.D.Disk.moment g.D.Disk.left_since g.O.Outlet.adding g.O.Outlet.tearing (sender_of a.desk) c.args.disk.now (kept_of a.desk.store.journal) (rows_of a.desk.kept) a.desk.store.batch.parts (sure_agenda c.args.feed.now) a.desk.machine.state (g.O.Outlet.held c.args.outlet.now) l.disk (kept_of b.store.journal) (rows_of b.kept) b.store.batch.parts b.machine.state l._made i.so_far.0 (g.O.Outlet.held l.outlet) (sure_agenda l.feed) (few_events c.args.feed.now) low c.loop-made-test.false i.so_far.3)
+
+pub returns-in-Err-clause-unsaved : goal.returns-in-Err-clause-unsaved
+returns-in-Err-clause-unsaved g c = cut_alike Turned ℕ c.in-Err.stop _ c.in-Err.ensures.unsaved

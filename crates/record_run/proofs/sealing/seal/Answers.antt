@@ -4,6 +4,7 @@ use Rattle.record_run.specs.Runs.{sender_of}
 use Rattle.record_turn.specs.Desk.{rows_of}
 use Rattle.std.proofs.Common.{ap}
 use Rattle.avm_model.specs.Machine.{MachineState}
+use Rattle.record_run.proofs.Cutting.{seal_cut}
 use Rattle.record_run.proofs.sealing.seal.Goals as goal
 
 pub returns-clause-seal : goal.returns-clause-seal
@@ -19,3 +20,6 @@ returns-clause-open g c =
     let n = c.seal-answer.new.self.desk in
     told_open g.D.Disk.seen g.D.Disk.may_leave g.D.Disk.moment g.D.Disk.left_since g.O.Outlet.adding g.O.Outlet.tearing c.args.disk.now c.seal-answer.new.disk (kept_of d.store.journal) (kept_of n.store.journal) (sender_of d) c.args.drops c.seal-answer.result (rows_of d.kept) d.store.batch.parts n.store.batch.parts
     d.machine.state _ (g.O.Outlet.held c.args.outlet.now) (g.O.Outlet.held c.seal-answer.new.outlet) c.outcome.result c.args.recorder.now.stop c.seal-answer.new.self.stop c.outcome.ensures c.requires.open c.seal-answer.ensures.stop c.requires.own (c.seal-answer.ensures.seals c.requires.open)
+
+pub returns-clause-unsaved : goal.returns-clause-unsaved
+returns-clause-unsaved g c = seal_cut _ c.args.drops c.seal-answer.result c.outcome.result c.outcome.ensures c.seal-answer.ensures.unsaved

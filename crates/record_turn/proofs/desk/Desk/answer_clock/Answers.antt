@@ -18,6 +18,7 @@ use Rattle.record_turn.proofs.Batches.{input_open, input_size, small_size}
 use Rattle.record_turn.proofs.Finishes.{next_for}
 use Rattle.record_turn.proofs.Steps.{answered_on, answered_stopped}
 use Rattle.record_turn.proofs.Told.{told_as}
+use Rattle.record_store.proofs.Unsaved.{unsaved_alike}
 use Rattle.record_turn.proofs.desk.Desk.answer_clock.Goals as goal
 use Rattle.record_parts.specs.declared.answers.Turn.{Turn}
 use Rattle.record_turn.proofs.Runs.{runs_alike}
@@ -114,3 +115,6 @@ returns-in-Err-clause-clock g c =
 
 pub returns-in-Err-clause-run : goal.returns-in-Err-clause-run
 returns-in-Err-clause-run g c = runs_alike (Unit {0}) Turn c.in-Err.stop _ (rw c.in-Err.is at c.finish.ensures.run)
+
+pub returns-in-Err-clause-unsaved : goal.returns-in-Err-clause-unsaved
+returns-in-Err-clause-unsaved g c = unsaved_alike (Unit {0}) Turn c.in-Err.stop _ (rw c.in-Err.is at c.finish.ensures.unsaved)

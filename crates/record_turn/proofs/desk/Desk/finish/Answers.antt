@@ -12,6 +12,7 @@ use Rattle.record_turn.proofs.Finishes.{Wrote, finish_cut, finish_open, finish_r
 use Rattle.record_turn.proofs.Keeps.{step_keeps}
 use Rattle.record_turn.proofs.Told.{told_map, told_still}
 use Rattle.record_turn.specs.Desk.{rows_of}
+use Rattle.record_store.proofs.Unsaved.{unsaved_alike}
 use Rattle.record_turn.proofs.desk.Desk.finish.Goals as goal
 use Rattle.record_turn.proofs.Runs.{saves_run}
 
@@ -103,3 +104,6 @@ returns-in-Err-clause-run g c = saves_run (Option Ticket) (Unit {0}) _ _ c.in-Er
 
 pub returns-in-Err-release_outs-clause-run : goal.returns-in-Err-release_outs-clause-run
 returns-in-Err-release_outs-clause-run g c = c.in-Ok.ensures.open.run
+
+pub returns-in-Err-clause-unsaved : goal.returns-in-Err-clause-unsaved
+returns-in-Err-clause-unsaved g c = unsaved_alike (Option Ticket) (Unit {0}) c.in-Err.stop _ (rw c.in-Err.is at c.save.ensures.unsaved)

@@ -7,6 +7,7 @@ use Rattle.record_turn.proofs.Batches.{seal_open, small_size}
 use Rattle.record_turn.proofs.Seals.{seal_again_cut, seal_again_done, seal_cut_off, seal_done, seal_gone, seal_never, seal_signs_once}
 use Rattle.record_turn.proofs.Told.{told_map, told_still}
 use Rattle.record_turn.specs.Desk.{rows_of}
+use Rattle.record_store.proofs.Unsaved.{unsaved_alike}
 use Rattle.record_turn.proofs.desk.Desk.seal.Goals as goal
 use Rattle.record_parts.specs.declared.answers.Sealed.{Sealed}
 use Rattle.record_turn.proofs.Runs.{saves_run}
@@ -103,3 +104,6 @@ returns-in-Err-save-clause-run g c = saves_run (Option Ticket) Sealed _ _ c.in-E
 
 pub returns-in-Err-release_auth-clause-run : goal.returns-in-Err-release_auth-clause-run
 returns-in-Err-release_auth-clause-run g c = c.in-Ok-Some.ensures.open.run
+
+pub returns-in-Err-save-clause-unsaved : goal.returns-in-Err-save-clause-unsaved
+returns-in-Err-save-clause-unsaved g c = unsaved_alike (Option Ticket) Sealed c.in-Err-save.stop _ (rw c.in-Err-save.is at c.save.ensures.unsaved)

@@ -2,6 +2,7 @@ use Rattle.std.proofs.Common.{sym, refl, rules, ◌∙◌, inl, inr}
 use Rattle.jrnl_store.specs.Kept.{kept as kept_of}
 use Rattle.record_turn.proofs.Batches.{none_signs, some_large}
 use Rattle.record_turn.proofs.Told.{told_map, told_still}
+use Rattle.record_store.proofs.Unsaved.{unsaved_alike}
 use Rattle.record_turn.proofs.desk.Desk.settle.Goals as goal
 use Rattle.std.proofs.Common.{Option}
 use Rattle.jrnl_store.specs.declared.ticket.Ticket.{Ticket}
@@ -30,3 +31,6 @@ returns-in-Err-clause-settled g c =
 
 pub returns-in-Err-clause-run : goal.returns-in-Err-clause-run
 returns-in-Err-clause-run g c = saves_run (Option Ticket) (Unit {0}) _ _ c.in-Err.stop _ (rw c.in-Err.is at c.save.ensures.faults)
+
+pub returns-in-Err-clause-unsaved : goal.returns-in-Err-clause-unsaved
+returns-in-Err-clause-unsaved g c = unsaved_alike (Option Ticket) (Unit {0}) c.in-Err.stop _ (rw c.in-Err.is at c.save.ensures.unsaved)

@@ -17,6 +17,7 @@ use Rattle.record_parts.specs.declared.answers.Turn.{Turn}
 use Rattle.record_turn.proofs.Keeps.{beside_same}
 use Rattle.record_turn.specs.Keeping.{aside_of}
 use Rattle.record_turn.specs.Desk.{rows_of}
+use Rattle.record_store.proofs.Unsaved.{unsaved_alike}
 use Rattle.record_turn.proofs.desk.Desk.take_console.Goals as goal
 use Rattle.record_turn.proofs.Runs.{runs_alike}
 
@@ -104,3 +105,6 @@ returns-in-Err-settle-clause-outlet_faults g c =
 
 pub returns-in-Err-settle-clause-run : goal.returns-in-Err-settle-clause-run
 returns-in-Err-settle-clause-run g c = runs_alike (Unit {0}) Turn c.in-Err-settle.stop _ (rw c.in-Err-settle.is at c.settle.ensures.run)
+
+pub returns-in-Err-settle-clause-unsaved : goal.returns-in-Err-settle-clause-unsaved
+returns-in-Err-settle-clause-unsaved g c = unsaved_alike (Unit {0}) Turn c.in-Err-settle.stop _ (rw c.in-Err-settle.is at c.settle.ensures.unsaved)

@@ -6,6 +6,7 @@ use Rattle.record_parts.specs.Outs.{ram_in}
 use Rattle.record_turn.proofs.Batches.{small_size}
 use Rattle.record_turn.proofs.Steps.{clock_gone, stepped_on_to, stepped_stopped, steps_by_clock}
 use Rattle.record_turn.proofs.Told.{told_as}
+use Rattle.record_store.proofs.Unsaved.{unsaved_alike}
 use Rattle.record_turn.proofs.desk.Desk.use_clock.Goals as goal
 use Rattle.record_parts.specs.declared.answers.Turn.{Turn}
 use Rattle.record_turn.proofs.Runs.{runs_alike}
@@ -43,3 +44,6 @@ returns-in-Err-clause-clock g c = ap (λ (s : State). s.devices.clock) c.finish.
 
 pub returns-in-Err-clause-run : goal.returns-in-Err-clause-run
 returns-in-Err-clause-run g c = runs_alike (Unit {0}) Turn c.in-Err.stop _ (rw c.in-Err.is at c.finish.ensures.run)
+
+pub returns-in-Err-clause-unsaved : goal.returns-in-Err-clause-unsaved
+returns-in-Err-clause-unsaved g c = unsaved_alike (Unit {0}) Turn c.in-Err.stop _ (rw c.in-Err.is at c.finish.ensures.unsaved)
