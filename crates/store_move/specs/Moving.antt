@@ -1,7 +1,7 @@
 -- How a store's move ends.
 use Rattle.std.specs.Prelude.{◌≡◌, ◌⊎◌, ◌^◌, ◌≤◌, ℕ, List, length, Option, Some, None, Result, Ok, Err}
 use Rattle.avm_outside.specs.Outside.{Rises}
-use Rattle.base_model.specs.Spare.{Active, Free, IsActive, IsKind, IsWhole, Other, Prepared}
+use Rattle.base_model.specs.Spare.{Active, Free, IsActive, IsFree, IsKind, IsWhole, Other, Prepared}
 use Rattle.journal_model.specs.Spelling.{mark_items}
 use Rattle.jrnl_store.specs.Kept.{Kept}
 use Rattle.jrnl_store.specs.Own.{IsFull}
@@ -59,6 +59,38 @@ EndCause spare.Other r = ⊥
 abbrev pub EndCounts : {T : Type 0} → ℕ → ℕ → Result T RetainFault → Type 0
 EndCounts before now (Err fault.SpareFault) = Rises before now
 EndCounts before now r = now ≡ before
+
+-- what the answer of a store that moves, or of a move that is ended, may be
+abbrev pub IsOfMoving : {T : Type 0} → Result T RetainFault → Type 0
+IsOfMoving (Ok t) = Unit {0}
+IsOfMoving (Err fault.DiskFault) = Unit {0}
+IsOfMoving (Err fault.SpareFault) = Unit {0}
+IsOfMoving (Err fault.NotEmpty) = Unit {0}
+IsOfMoving (Err fault.Full) = Unit {0}
+IsOfMoving (Err fault.OtherSpare) = Unit {0}
+IsOfMoving (Err e) = ⊥
+
+-- ---- what stands on the disks
+
+-- no journal's first byte, or the whole base
+abbrev pub IsFreeOrWhole : List ℕ → List ℕ → Type 0
+IsFreeOrWhole behind e = IsFree e ⊎ IsWhole behind e
+
+-- what the spare may have at a moment: what it had before, or one of these
+abbrev pub IsSpareImage : (List ℕ → Type 0) → List ℕ → List ℕ → Type 0
+IsSpareImage images behind e = images e ⊎ IsFreeOrWhole behind e
+
+-- where the mark doesn't fit
+abbrev pub WhereFull : {T : Type 0} → Result T RetainFault → Type 0 → Type 0
+WhereFull (Err fault.Full) P = P
+WhereFull r P = Unit {0}
+
+-- what a refusal leaves of the store's disk and of the spare; a mark that doesn't fit is found behind a spare that was prepared
+abbrev pub WhereRefused : {T : Type 0} → List ℕ → Result T RetainFault → Type 0 → Type 0 → Type 0
+WhereRefused behind (Err fault.NotEmpty) D S = D × S
+WhereRefused behind (Err fault.OtherSpare) D S = D × S
+WhereRefused behind (Err fault.Full) D S = D × (IsLong behind → S)
+WhereRefused behind r D S = Unit {0}
 
 -- ---- what a spare is, and how a retain answers
 
