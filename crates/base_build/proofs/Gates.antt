@@ -83,7 +83,7 @@ entries_all j n e = e
 abbrev bytes_of : List (List Part) → List ℕ
 bytes_of rs = list_bytes (λ ps. record_bytes (parts_bytes ps)) rs
 
-shape : (j : JournalData) (n : ℕ) (s : MovedState) → base_bytes j n s ≡ header_bytes (base_header j n s) ++ (bytes_of (records_from n j.records) ++ 0 ∷ [])
+pub shape : (j : JournalData) (n : ℕ) (s : MovedState) → base_bytes j n s ≡ header_bytes (base_header j n s) ++ (bytes_of (records_from n j.records) ++ 0 ∷ [])
 unfolding base_bytes moved spelled front_bytes
 shape j n s = ap (λ (l : List ℕ). l ++ 0 ∷ []) (append-nil (header_bytes (base_header j n s) ++ bytes_of (records_from n j.records))) ∙ append_assoc (header_bytes (base_header j n s)) (bytes_of (records_from n j.records)) (0 ∷ [])
 
