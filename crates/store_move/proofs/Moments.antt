@@ -1,9 +1,9 @@
 -- What each of two disks may have at any moment, while a store moves.
-use Rattle.std.proofs.Common.{◌≡◌, ◌⊎◌, inl, inr, ⊎_elim, ℕ, true, refl, sym, ◌∙◌, subst, List, Option, None, Some, IfSome}
+use Rattle.std.proofs.Common.{◌≡◌, inl, inr, ⊎_elim, ℕ, true, sym, subst, List, Option, None, Some, IfSome}
 use Rattle.avm_outside.specs.Outside.{BothTold}
 use Rattle.avm_outside.specs.Moments.{LeavesOnly}
 use Rattle.avm_outside.proofs.Runs.{started, weaker, joined}
-use Rattle.base_model.specs.Spare.{IsFree, IsPrepared, IsWhole}
+use Rattle.base_model.specs.Spare.{IsFree, IsPrepared}
 use Rattle.journal_model.specs.Journal.{JournalData, entries, has_snap}
 use Rattle.jrnl_store.specs.Kept.{Kept}
 use Rattle.jrnl_store.specs.Own.{IsOwn}
