@@ -8,12 +8,12 @@ use Rattle.world_schedule.specs.declared.event_line.DeedLine.TheVariants as deed
 use Rattle.world_schedule.specs.declared.event_line.EventLine.{EventLine}
 use Rattle.world_schedule.specs.declared.line.Line.{Line as Read}
 use Rattle.world_schedule.specs.declared.line.Line.TheVariants as line
-use Rattle.world_schedule.specs.declared.line.NodeLine.{NodeLine}
+use Rattle.world_schedule.specs.declared.node_line.NodeLine.{NodeLine}
 
 abbrev pub deed_of : DeedLine → Deed
 deed_of deed.Turn = Turn
 deed_of (deed.Deliver number) = Deliver number
-deed_of (deed.Console bytes) = Console bytes.items
+deed_of (deed.Console input) = Console input.bytes.items
 deed_of (deed.Resend peer) = Resend peer
 deed_of deed.Seal = Seal
 

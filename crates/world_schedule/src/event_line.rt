@@ -5,17 +5,18 @@ ghost use Rattle.world_schedule.specs.Read.{deed_of, event_in};
 ghost use Rattle.world_schedule.specs.Schedule.{crash_at, crash_named, crash_of, deed_at, deed_named, delivery, event_of, input, repetition, valued};
 
 use crate::cut::{cut, word};
+use crate::input::Input;
 use crate::values::{byte, bytes_in, long, peer_number, small_number};
 use avm_num::NoMemory;
 use std::alloc::Global;
 use world_model::Crash;
 
-/// What is done at a node, with the bytes of console input.
+/// What is done at a node.
 #[derive(Drop)]
 pub enum DeedLine {
     Turn,
     Deliver(u32),
-    Console(Vec<u8>),
+    Console(Input),
     Resend(u32),
     Seal,
 }
@@ -53,7 +54,7 @@ fn read_input(alloc: Global, text: &[u8]) -> Result<Option<DeedLine>, NoMemory>
     ensures { IfOk result (λ d. option_map deed_of d ≡ input text.now) }
 {
     match bytes_in(alloc, 256, text)? {
-        Some(bytes) => Ok(Some(DeedLine::Console(bytes))),
+        Some(bytes) => Ok(Some(DeedLine::Console(Input { bytes }))),
         None => Ok(None),
     }
 }

@@ -5,16 +5,10 @@ ghost use Rattle.world_schedule.specs.Schedule.{event, event_of, is_flat, line_o
 
 use crate::cut::cut;
 use crate::event_line::{EventLine, read_event};
+use crate::node_line::NodeLine;
 use crate::values::{bytes_in, hex_32};
 use avm_num::NoMemory;
 use std::alloc::Global;
-
-/// A node of a schedule: the seed of its key, and the image that it boots, of 1 to 4096 bytes.
-#[derive(Drop)]
-pub struct NodeLine {
-    pub seed: [u8; 32],
-    pub image: Vec<u8>,
-}
 
 // What a line says.
 #[derive(Drop)]

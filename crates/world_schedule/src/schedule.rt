@@ -7,17 +7,12 @@ ghost use Rattle.world_schedule.specs.Sofar.{step};
 
 use crate::cut::cut;
 use crate::event_line::EventLine;
-use crate::line::{Line, NodeLine, read_line};
+use crate::line::{Line, read_line};
+use crate::node_line::NodeLine;
+use crate::whole::Schedule;
 use avm_num::NoMemory;
 use avm_script::ReadFault;
 use std::alloc::Global;
-
-/// The nodes and the events of a schedule.
-#[derive(Drop)]
-pub struct Schedule {
-    pub nodes: Vec<NodeLine>,
-    pub events: Vec<EventLine>,
-}
 
 // What was read so far.
 #[derive(Drop)]

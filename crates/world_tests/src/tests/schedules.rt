@@ -180,7 +180,7 @@ fn a_schedule_is_read(rt: HostRuntime) -> Result<(), AllocError> {
     assert!(rt; events.len() == 4 && events[1].node == 3 && events[3].crash.is_none());
     assert!(rt; matches!(events[0].deed, DeedLine::Deliver(7)));
     assert!(rt;
-        matches!(&events[1].deed, DeedLine::Console(bytes) if bytes.as_slice() == [0x41, 10].as_slice())
+        matches!(&events[1].deed, DeedLine::Console(input) if input.bytes.as_slice() == [0x41, 10].as_slice())
     );
     assert!(rt; matches!(events[2].deed, DeedLine::Resend(5)));
     assert!(rt; matches!(events[3].deed, DeedLine::Seal));
