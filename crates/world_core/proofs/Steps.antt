@@ -11,7 +11,7 @@ use Rattle.recorder.specs.Recorder.{desk_of}
 use Rattle.recorder.specs.declared.recorder.Recorder.{Recorder}
 use Rattle.world_core.specs.Acts.{ActOf}
 use Rattle.world_core.specs.Crashes.{Crashed, CrashedIfUp, Fails, FailsOn, IsDown, OpensOn, Reopens, Wants}
-use Rattle.world_core.specs.Nodes.{DidIfUp, EndsBy, SameNode, StepsAt, calls_between, keeps}
+use Rattle.world_core.specs.Nodes.{DidIfUp, EndsBy, SameNode, StepsAt, crash_call, keeps}
 use Rattle.world_core.specs.Runs.{RunsIfUp}
 use Rattle.world_core.specs.Turns.{Packets}
 use Rattle.world_core.specs.Worlds.{Made, ParcelData, bytes_at, delivered_by, events_of, StepsBy, nodes_of, parcels, pool_of, refusal_of}
@@ -60,7 +60,7 @@ crashed_down old new o signer key image want (fault.Unreplayed n) res none k i d
 
 -- ---- a step's end
 
-pub ends_plain : (o : Option Crash) (n m : Node) (answer : Stepped) → ((x : Crash) → o ≡ Some x → ⊥) → EndsBy (option_map crash_view o) n m m answer (Ok answer)
+pub ends_plain : (o : Option Crash) (n m : Node) (answer : Stepped) → ((x : Crash) → o ≡ Some x → ⊥) → EndsBy (option_map crash_view o) n m m true answer (Ok answer)
 ends_plain None n m answer never = (refl, refl)
 ends_plain (Some x) n m answer never = absurd (never x refl)
 
@@ -68,18 +68,14 @@ pub keeps_plain : (o : Option Crash) (made : ℕ) → ((x : Crash) → o ≡ Som
 keeps_plain None made never = refl
 keeps_plain (Some x) made never = absurd (never x refl)
 
-pub ends_crash : (o : Option Crash) (c : Crash) (n m last : Node) (answer : Stepped) (res : Result Stepped NoMemory) (at : ℕ) → o ≡ Some c → at ≡ min (disk_calls n.disk + min (calls_between n m) c.calls) (disk_calls m.disk)
-    → CrashedIfUp m.recorder m.disk last.disk last.recorder (crash_image (disk_state m.disk at) c.long c.fill) res → EndsBy (option_map crash_view o) n m last answer res
-ends_crash o c n m last answer res at is a h =
-    subst (λ (x : Option Crash). EndsBy (option_map crash_view x) n m last answer res) (sym is)
+pub ends_crash : (o : Option Crash) (c : Crash) (n m last : Node) (kept : Bool) (answer : Stepped) (res : Result Stepped NoMemory) (at : ℕ) → o ≡ Some c → at ≡ crash_call kept (disk_calls n.disk) c.calls (disk_calls m.disk)
+    → CrashedIfUp m.recorder m.disk last.disk last.recorder (crash_image (disk_state m.disk at) c.long c.fill) res → EndsBy (option_map crash_view o) n m last kept answer res
+ends_crash o c n m last kept answer res at is a h =
+    subst (λ (x : Option Crash). EndsBy (option_map crash_view x) n m last kept answer res) (sym is)
     (subst (λ (k : ℕ). CrashedIfUp m.recorder m.disk last.disk last.recorder (crash_image (disk_state m.disk k) c.long c.fill) res) a h)
 
 pub keeps_crash : (o : Option Crash) (c : Crash) (x made : ℕ) → o ≡ Some c → x ≡ made → nat_le x c.calls ≡ keeps (option_map crash_view o) made
 keeps_crash o c x made is e = rw (is, e) refl
-
--- the moment of a crash is no later than a u64 counts
-pub moment_is : (before now most made least sum at : ℕ) → now < 2 ^ 64 → made ≡ now - before → least ≡ min made most → sum ≡ min (before + least) (2 ^ 64 - 1) → at ≡ min sum now → at ≡ min (before + min (now - before) most) now
-moment_is before now most made least sum at low a b c d = omega (arith, low, a, b, c, d)
 
 -- ---- an outlet
 

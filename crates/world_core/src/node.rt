@@ -8,7 +8,7 @@ ghost use Rattle.record_open.specs.declared.fault.RecordFault.TheVariants as fau
 ghost use Rattle.world_core.specs.Acts.{ActOf};
 ghost use Rattle.world_core.specs.Crashes.{CrashedIfUp, FailsOn, IsDown, OpensOn};
 ghost use Rattle.world_core.specs.Gifts.{FitsGift};
-ghost use Rattle.world_core.specs.Nodes.{DidIfUp, SameNode, StepsAt, machine_of};
+ghost use Rattle.world_core.specs.Nodes.{DidIfUp, SameNode, StepsAt, counted as counted_lem, crash_call as call_of_crash, machine_of};
 ghost use Rattle.world_core.specs.Runs.{Runs, RunsIfUp};
 ghost use Rattle.world_core.specs.Turns.{SealOf, TurnOf};
 ghost use Rattle.world_model.specs.EventView.{deed_view, event_view};
@@ -108,6 +108,29 @@ fn down(why: RecordFault) -> Result<Stepped, NoMemory>
     }
 }
 
+/// How many disk calls count of those that an act made. The entry of a packet that is released again is sought among the journal's
+/// items: its reads count as one, and such an act makes no other calls.
+fn counted(answer: Stepped, made: usize) -> usize
+    ensures { result ≡ counted_lem answer made }
+{
+    match answer {
+        Stepped::Turned(Turn::Resent | Turn::Dropped(_)) => made.min(1),
+        _ => made,
+    }
+}
+
+/// Behind which call of its disk a node crashes: the last, where what the act released is kept.
+fn crash_call(kept: bool, before: usize, calls: usize, now: usize) -> usize
+    ensures value { result ≡ call_of_crash kept before calls now }
+    ensures bound { result ≤ now }
+{
+    if kept {
+        now
+    } else {
+        before.saturating_add(calls).min(now)
+    }
+}
+
 impl Node {
     /// One turn or one seal. A node that is down does nothing.
     fn act(&mut self, act: Act<'_>, packet: &[u8], number: u64, outlet: &mut OneOutlet) -> Stepped
@@ -155,7 +178,8 @@ impl Node {
         }
     }
 
-    /// One act, and the crash that may follow it. Also whether what was released is kept: a crash amid the act's disk calls drops it.
+    /// One act, and the crash that may follow it. Also whether what was released is kept: a crash amid the disk calls that count of
+    /// the act drops it.
     pub fn step(
         &mut self,
         alloc: Global,
@@ -175,9 +199,9 @@ impl Node {
         let Some(crash) = event.crash else {
             return (Ok(answer), true);
         };
-        let made = now.saturating_sub(before);
         let most = crash.calls as usize;
-        let at = before.saturating_add(made.min(most)).min(now);
-        (self.crash(alloc, at, crash), made <= most)
+        let kept = counted(answer, now.saturating_sub(before)) <= most;
+        let at = crash_call(kept, before, most, now);
+        (self.crash(alloc, at, crash), kept)
     }
 }

@@ -121,16 +121,14 @@ crash_may : (d : MemDisk) (at : ℕ) (long : Bool) (fill : ℕ) → IsImage (dis
 crash_may d at true fill = image_is (disk_state d at) (disk_state d at).extent.most _ (ordered (length d.base.items) at d.log.items) (omega arith)
 crash_may d at false fill = image_is (disk_state d at) (disk_state d at).extent.least _ (omega arith) (ordered (length d.base.items) at d.log.items)
 
-image_since : (n m : Node) (c : CrashData) → moment n.disk ≤ moment m.disk → left_since m.disk (moment n.disk) (image_behind n m c)
+image_since : (n m : Node) (c : CrashData) → moment n.disk ≤ moment m.disk → left_since m.disk (moment n.disk) (image_behind n m c false)
 image_since n m c later =
-    let low : disk_calls n.disk ≤ min (disk_calls n.disk + min (disk_calls m.disk - disk_calls n.disk) c.calls) (disk_calls m.disk) = omega (arith, later) in
-    let high : min (disk_calls n.disk + min (disk_calls m.disk - disk_calls n.disk) c.calls) (disk_calls m.disk) ≤ disk_calls m.disk = omega arith in
-    (min (disk_calls n.disk + min (calls_between n m) c.calls) (disk_calls m.disk), low, high, crash_may m.disk (min (disk_calls n.disk + min (calls_between n m) c.calls) (disk_calls m.disk)) c.long c.fill)
+    let low : disk_calls n.disk ≤ min (disk_calls n.disk + c.calls) (disk_calls m.disk) = omega (arith, later) in
+    let high : min (disk_calls n.disk + c.calls) (disk_calls m.disk) ≤ disk_calls m.disk = omega arith in
+    (min (disk_calls n.disk + c.calls) (disk_calls m.disk), low, high, crash_may m.disk (min (disk_calls n.disk + c.calls) (disk_calls m.disk)) c.long c.fill)
 
-image_now : (n m : Node) (c : CrashData) → moment n.disk ≤ moment m.disk → calls_between n m ≤ c.calls → may_leave m.disk (image_behind n m c)
-image_now n m c later few =
-    let all : min (disk_calls n.disk + min (disk_calls m.disk - disk_calls n.disk) c.calls) (disk_calls m.disk) ≡ disk_calls m.disk = omega (arith, later, few) in
-    subst (λ (x : ℕ). IsImage (disk_state m.disk x) (image_behind n m c)) all (crash_may m.disk (min (disk_calls n.disk + min (calls_between n m) c.calls) (disk_calls m.disk)) c.long c.fill)
+image_now : (n m : Node) (c : CrashData) → may_leave m.disk (image_behind n m c true)
+image_now n m c = crash_may m.disk (disk_calls m.disk) c.long c.fill
 
 -- ---- stations
 
@@ -174,11 +172,11 @@ nothing true packets e p h = let bad : Among p [] = subst (λ (x : Packets). Amo
 nothing false packets e p h = absurd h
 
 -- a node that was down
-was_down : (o : Option CrashData) (n acted last : Node) (answer : Stepped) (result : Result Stepped NoMemory) → acted.recorder ≡ None → EndsBy o n acted last answer result → last.recorder ≡ None
-was_down None n acted last answer result none e = ap (λ (x : Node). x.recorder) e.1 ∙ none
-was_down (Some c) n acted last answer result none e = by acted.recorder none e
+was_down : (o : Option CrashData) (n acted last : Node) (kept : Bool) (answer : Stepped) (result : Result Stepped NoMemory) → acted.recorder ≡ None → EndsBy o n acted last kept answer result → last.recorder ≡ None
+was_down None n acted last kept answer result none e = ap (λ (x : Node). x.recorder) e.1 ∙ none
+was_down (Some c) n acted last kept answer result none e = by acted.recorder none e
   where
-    by : (o : Option Recorder) → o ≡ None → CrashedIfUp o acted.disk last.disk last.recorder (image_behind n acted c) result → last.recorder ≡ None
+    by : (o : Option Recorder) → o ≡ None → CrashedIfUp o acted.disk last.disk last.recorder (image_behind n acted c kept) result → last.recorder ≡ None
     by None none k = k.1
     by (Some r) none k = absurd (let bad : Some r ≡ None = none in cc bad)
 
@@ -212,9 +210,9 @@ module _ (pool : List Piece) (n acted last : Node) (r q : Recorder) (j : Journal
   }
 
   -- a crash behind all calls of the act
-  crash_behind : (c : CrashData) (result : Result Stepped NoMemory) → calls_between n acted ≤ c.calls → Crashed acted.disk last.disk last.recorder (desk_of q).press.key (image_behind n acted c) result → Went pool (station_of j (desk_of r)) last true packets
-  crash_behind c result few (Reopens t up is o) =
-      let again : Again (desk_of q) d.journal last.disk (desk_of t) = again_at (desk_of q) d.journal acted.disk last.disk t (image_behind n acted c) sound_behind d.at (image_now n acted c d.later few) o in
+  crash_behind : (c : CrashData) (result : Result Stepped NoMemory) → Crashed acted.disk last.disk last.recorder (desk_of q).press.key (image_behind n acted c true) result → Went pool (station_of j (desk_of r)) last true packets
+  crash_behind c result (Reopens t up is o) =
+      let again : Again (desk_of q) d.journal last.disk (desk_of t) = again_at (desk_of q) d.journal acted.disk last.disk t (image_behind n acted c true) sound_behind d.at (image_now n acted c) o in
       record {
         to = station_of again.journal (desk_of t);
         who = again.signs ∙ d.signs;
@@ -223,14 +221,14 @@ module _ (pool : List Piece) (n acted last : Node) (r q : Recorder) (j : Journal
         station = up_station n last (station_of j (desk_of r)) again.journal t h same up again.at (again.signs ∙ d.signs);
         released = kept_in packets d.pieces d.held;
       }
-  crash_behind c result few (Wants none is) = goes_down none
-  crash_behind c result few (Fails why none is f) = goes_down none
+  crash_behind c result (Wants none is) = goes_down none
+  crash_behind c result (Fails why none is f) = goes_down none
 
   -- a crash amid them: nothing is released
-  crash_amid : (c : CrashData) (result : Result Stepped NoMemory) → Crashed acted.disk last.disk last.recorder (desk_of q).press.key (image_behind n acted c) result → Went pool (station_of j (desk_of r)) last false packets
+  crash_amid : (c : CrashData) (result : Result Stepped NoMemory) → Crashed acted.disk last.disk last.recorder (desk_of q).press.key (image_behind n acted c false) result → Went pool (station_of j (desk_of r)) last false packets
   crash_amid c result (Reopens t up is o) =
       let key : (desk_of q).press.key ≡ (desk_of r).press.key = ap (λ (x : Sender). x.key) d.signs in
-      let back : Back pool j (desk_of r) last.disk (desk_of t) = d.cut (image_behind n acted c) last.disk t (image_since n acted c d.later) (subst (λ (x : KeyData). OpensOn last.disk t x (image_behind n acted c)) key o) in
+      let back : Back pool j (desk_of r) last.disk (desk_of t) = d.cut (image_behind n acted c false) last.disk t (image_since n acted c d.later) (subst (λ (x : KeyData). OpensOn last.disk t x (image_behind n acted c false)) key o) in
       record {
         to = station_of back.journal (desk_of t);
         who = back.signs;
@@ -242,22 +240,22 @@ module _ (pool : List Piece) (n acted last : Node) (r q : Recorder) (j : Journal
   crash_amid c result (Wants none is) = rests pool (station_of j (desk_of r)) n last false packets h same none (λ p a. a)
   crash_amid c result (Fails why none is f) = rests pool (station_of j (desk_of r)) n last false packets h same none (λ p a. a)
 
-  crashed : (c : CrashData) (result : Result Stepped NoMemory) (b : Bool) → nat_le (calls_between n acted) c.calls ≡ b → Crashed acted.disk last.disk last.recorder (desk_of q).press.key (image_behind n acted c) result → Went pool (station_of j (desk_of r)) last b packets
-  crashed c result true e k = crash_behind c result (leb-true (calls_between n acted) c.calls e) k
-  crashed c result false e k = crash_amid c result k
+  crashed : (c : CrashData) (result : Result Stepped NoMemory) (kept : Bool) → Crashed acted.disk last.disk last.recorder (desk_of q).press.key (image_behind n acted c kept) result → Went pool (station_of j (desk_of r)) last kept packets
+  crashed c result true k = crash_behind c result k
+  crashed c result false k = crash_amid c result k
 
-  up_went : (o : Option CrashData) (kept : Bool) (answer : Stepped) (result : Result Stepped NoMemory) → acted.recorder ≡ Some q → kept ≡ keeps o (calls_between n acted) → EndsBy o n acted last answer result → Went pool (station_of j (desk_of r)) last kept packets
+  up_went : (o : Option CrashData) (kept : Bool) (answer : Stepped) (result : Result Stepped NoMemory) → acted.recorder ≡ Some q → kept ≡ keeps o (calls_between n acted answer) → EndsBy o n acted last kept answer result → Went pool (station_of j (desk_of r)) last kept packets
   up_went None kept answer result up k e = subst (λ (b : Bool). Went pool (station_of j (desk_of r)) last b packets) (sym k) (stays_up e.1 up)
   up_went (Some c) kept answer result up k e =
-      let crash = subst (λ (x : Option Recorder). CrashedIfUp x acted.disk last.disk last.recorder (image_behind n acted c) result) up e in
-      crashed c result kept (sym k) crash
+      let crash = subst (λ (x : Option Recorder). CrashedIfUp x acted.disk last.disk last.recorder (image_behind n acted c kept) result) up e in
+      crashed c result kept crash
 
 pub step_went : (pool : List Piece) (n last : Node) (s : Station) (ev : EventData) (bytes : List ℕ) (number : ℕ) (packets : Packets) (kept : Bool) (result : Result Stepped NoMemory) → IsSound s.recording → IsStation n s → Brought pool ev.deed bytes → StepsAt n last ev bytes number [] packets kept result → Went pool s last kept packets
 step_went pool n last s ev bytes number packets kept result sound h brought t = by n.recorder refl t.did
   where
     by : (o : Option Recorder) → n.recorder ≡ o → DidIfUp o n t.acted ev.deed bytes number [] packets t.answer → Went pool s last kept packets
     by None none did =
-        rests pool s n last kept packets h t.same (was_down ev.crash n t.acted last t.answer result (ap (λ (x : Node). x.recorder) did.1 ∙ none) t.ends) (nothing kept packets did.2)
+        rests pool s n last kept packets h t.same (was_down ev.crash n t.acted last kept t.answer result (ap (λ (x : Node). x.recorder) did.1 ∙ none) t.ends) (nothing kept packets did.2)
     by (Some r) up did =
         let st : Stands n.disk r s = subst (λ (x : Option Recorder). StandsIfUp n.disk x s) up h.up in
         let sound_at : IsSound (recording_of st.journal (desk_of r)) = subst (λ (x : Station). IsSound x.recording) st.is sound in
