@@ -7,7 +7,7 @@ mod real_files;
 mod real_sink;
 
 use avm_outside::Sink;
-use avm_top::{avm, store_word};
+use avm_top::{avm, spare_word, store_word};
 use real_disk::RealDisk;
 use real_files::RealFiles;
 use real_sink::RealSink;
@@ -17,13 +17,13 @@ use std::{env, io};
 
 fn main(rt: HostRuntime) -> ExitCode {
     let mut files = RealFiles::new(&rt);
-    let mut spare = RealDisk::absent();
     let mut out = RealSink::new(&rt);
     let words = match words(&rt) {
         Ok(words) => words,
         Err(AllocError) => return no_memory(&mut out),
     };
     let mut disk = store(&rt, &words);
+    let mut spare = spare(&rt, &words);
     let status = avm(
         rt.alloc(),
         &words,
@@ -39,6 +39,14 @@ fn main(rt: HostRuntime) -> ExitCode {
 fn store(rt: &HostRuntime, words: &[String]) -> RealDisk {
     match store_word(words) {
         Some(name) => RealDisk::open(rt, name, makes_store(words)),
+        None => RealDisk::absent(),
+    }
+}
+
+// The file that a store is moved into, made where it isn't there.
+fn spare(rt: &HostRuntime, words: &[String]) -> RealDisk {
+    match spare_word(words) {
+        Some(name) => RealDisk::open(rt, name, true),
         None => RealDisk::absent(),
     }
 }

@@ -1,6 +1,6 @@
 -- What the status of a named job says.
 use Rattle.std.proofs.Common.{◌≡◌, ◌⊎◌, ◌≤◌, ℕ, List, Option, Some, IfSome, refl, sym, subst}
-use Rattle.avm_script.specs.Job.{JobData, SignedData, audit, check, enroll, export, format, list, narrow, rebut, record_job, roll, view_at, view_changes, widen, job_of}
+use Rattle.avm_script.specs.Job.{JobData, SignedData, audit, check, enroll, export, format, list, narrow, rebut, record_job, retain, roll, view_at, view_changes, widen, job_of}
 use Rattle.audit_command.specs.Meaning.{AuditMeans, CheckMeans, IsAcceptedLater}
 use Rattle.command_parts.specs.FileMap.{FileMap}
 use Rattle.export_command.specs.Meaning.{ExportMeans}
@@ -15,7 +15,7 @@ use Rattle.roll_command.specs.Enroll.{EnrollMeans}
 use Rattle.roll_command.specs.Roll.{RollMeans}
 use Rattle.view_command.specs.Meaning.{ViewMeans}
 use Rattle.view_command.specs.Showing.{ShowsState, ShowsChanges}
-use Rattle.avm_top.specs.Jobs.{MeansAs, MomentsAs, enroll_names, format_names, record_files, state_asked}
+use Rattle.avm_top.specs.Jobs.{MeansAs, MomentsAs, WhereRetained, enroll_names, format_names, record_files, state_asked}
 use Rattle.avm_top.proofs.Names.{audit_names}
 
 means_of : (job own : Option JobData) (old new : FileMap) (was is : Option (List ℕ)) (images : List ℕ → Type 0) (before after : Option (List ℕ)) (result : ℕ) → own ≡ job → MeansAs job old new was is images before after result → MeansAs own old new was is images before after result
@@ -64,6 +64,10 @@ roll_means job old new was is images before after result means store key is_it =
 
 pub enroll_means : (job : Option JobData) (old new : FileMap) (was is : Option (List ℕ)) (images : List ℕ → Type 0) (before after : Option (List ℕ)) (result : ℕ) → MeansAs job old new was is images before after result → (store key public endorse : List ℕ) → Some (enroll store key public endorse) ≡ job → EnrollMeans (enroll_names key public endorse) old new was is images result
 enroll_means job old new was is images before after result means store key public endorse is_it = means_of job (Some (enroll store key public endorse)) old new was is images before after result is_it means
+
+-- what is said of a job that moves a store
+pub retained : (job : Option JobData) (P : ℕ → Type 0) → WhereRetained job P → (store into : List ℕ) (at : ℕ) → Some (retain store into at) ≡ job → P at
+retained job P said store into at is_it = subst (λ (j : Option JobData). WhereRetained j P) (sym is_it) said
 
 -- the evidence has another name than the key
 pub evidence_later : (words : List (List ℕ)) (old new : FileMap) (was is : Option (List ℕ)) (images : List ℕ → Type 0) (before after : Option (List ℕ)) (result : ℕ) → MeansAs (job_of words) old new was is images before after result → (segment : List ℕ) (image : Option (List ℕ)) (names : SignedData) → Some (audit segment image (Some names)) ≡ job_of words → result ≡ 1 → IsAcceptedLater names old new

@@ -7,15 +7,19 @@ use Rattle.avm_num.specs.Bytes.{◌>>=◌, kept}
 use Rattle.std.specs.Prelude.{codes, ◌^◌, ◌++◌}
 use Rattle.std.specs.Option.{option_to_list}
 use Rattle.avm_model.specs.Words.{is_among, are_distinct, are_pairs, needed, optional, number_of, hex_sized}
-use Rattle.avm_script.specs.Job.{JobData, SignedData, keygen, format, record_job, export, audit, check, rebut, list, sample, retain, roll, enroll, widen, narrow, view_at, view_changes, Command, store_of, value_of, job_of, asked_of, height_of, width_of, signed_of, signed_names, keygen_job, format_job, record_words, export_job, audit_job, check_job, rebut_job, list_job, sample_job, retain_job, roll_job, enroll_job, widen_job, narrow_job, view_job, view_at_job, view_changes_job, view_at_options, view_changes_options, address_of, window_of, keygen_command, format_command, record_command, export_command, audit_command, check_command, rebut_command, list_command, sample_command, retain_command, roll_command, enroll_command, widen_command, narrow_command, view_command}
-use Rattle.avm_top.specs.Jobs.{uses_disk}
+use Rattle.avm_script.specs.Job.{JobData, SignedData, keygen, format, record_job, export, audit, check, rebut, list, sample, retain, roll, enroll, widen, narrow, view_at, view_changes, Command, store_of, spare_of, value_of, job_of, asked_of, height_of, width_of, signed_of, signed_names, keygen_job, format_job, record_words, export_job, audit_job, check_job, rebut_job, list_job, sample_job, retain_job, roll_job, enroll_job, widen_job, narrow_job, view_job, view_at_job, view_changes_job, view_at_options, view_changes_options, address_of, window_of, keygen_command, format_command, record_command, export_command, audit_command, check_command, rebut_command, list_command, sample_command, retain_command, roll_command, enroll_command, widen_command, narrow_command, view_command}
+use Rattle.avm_top.specs.Jobs.{uses_disk, uses_spare}
 
 -- the words behind the command have this store
 abbrev HasStore : List (List ℕ) → List ℕ → Type 0
 HasStore words store = needed (codes "--store") words ≡ Some store
 
+-- and this spare
+abbrev HasSpare : List (List ℕ) → List ℕ → Type 0
+HasSpare words spare = needed (codes "--into") words ≡ Some spare
+
 -- what a valid job is known for: a key's two files have different names, so have the key and the evidence of an audit, and the two
--- files that narrowing writes; and a store is that of the words
+-- files that narrowing writes; and a store is that of the words, as a spare is
 abbrev Fits : List (List ℕ) → JobData → Type 0
 Fits words (keygen height w id seed key public) = key ≢ public
 Fits words (format store key config image) = HasStore words store
@@ -24,7 +28,7 @@ Fits words (export store from to segment) = HasStore words store
 Fits words (audit segment image (Some names)) = names.key ≢ names.evidence
 Fits words (rebut store evidence) = HasStore words store
 Fits words (list store) = HasStore words store
-Fits words (retain store into at) = HasStore words store
+Fits words (retain store into at) = HasStore words store × HasSpare words into
 Fits words (roll store key) = HasStore words store
 Fits words (enroll store key public endorse) = HasStore words store
 Fits words (narrow key auths public into) = public ≢ into
@@ -111,7 +115,7 @@ sample_apart words = bound (Fits words) (needed (codes "--seed") words) _ (λ te
 
 retain_apart : (words : List (List ℕ)) → IfSome (retain_job words) (Fits words)
 unfolding retain_job
-retain_apart words = bound_by (Fits words) (needed (codes "--store") words) _ (λ store has. bound (Fits words) (needed (codes "--into") words) _ (λ into. bound (Fits words) (needed (codes "--at") words >>= number_of (2 ^ 64)) _ (λ at. if_kept (Fits words) (are_distinct (store ∷ into ∷ [])) _ (λ distinct. has))))
+retain_apart words = bound_by (Fits words) (needed (codes "--store") words) _ (λ store has. bound_by (Fits words) (needed (codes "--into") words) _ (λ into other. bound (Fits words) (needed (codes "--at") words >>= number_of (2 ^ 64)) _ (λ at. if_kept (Fits words) (are_distinct (store ∷ into ∷ [])) _ (λ distinct. has , other))))
 
 roll_apart : (words : List (List ℕ)) → IfSome (roll_job words) (Fits words)
 unfolding roll_job
@@ -175,7 +179,7 @@ unused words (check key evidence) fits none = refl
 unused words (rebut store evidence) fits none = let no : ◌≡◌ {A = Option (List ℕ)} (Some store) None = sym fits ∙ none in absurd cc
 unused words (list store) fits none = let no : ◌≡◌ {A = Option (List ℕ)} (Some store) None = sym fits ∙ none in absurd cc
 unused words (sample seed) fits none = refl
-unused words (retain store into at) fits none = refl
+unused words (retain store into at) fits none = let no : ◌≡◌ {A = Option (List ℕ)} (Some store) None = sym fits.0 ∙ none in absurd cc
 unused words (roll store key) fits none = let no : ◌≡◌ {A = Option (List ℕ)} (Some store) None = sym fits ∙ none in absurd cc
 unused words (enroll store key public endorse) fits none = let no : ◌≡◌ {A = Option (List ℕ)} (Some store) None = sym fits ∙ none in absurd cc
 unused words (widen endorse auths into) fits none = refl
@@ -192,3 +196,31 @@ no_store (name ∷ words) none = go (job_of (name ∷ words)) (fits_words (name 
     go : (o : Option JobData) → IfSome o (Fits words) → (if is_some o then needed (codes "--store") words else None) ≡ None → uses_disk o ≡ false
     go None fits none = refl
     go (Some j) fits none = unused words j fits none
+
+unspared : (words : List (List ℕ)) (j : JobData) → Fits words j → needed (codes "--into") words ≡ None → uses_spare (Some j) ≡ false
+unspared words (keygen height w id seed key public) fits none = refl
+unspared words (format store key config image) fits none = refl
+unspared words (record_job store key script packets console auths) fits none = refl
+unspared words (export store from to segment) fits none = refl
+unspared words (audit segment image signed) fits none = refl
+unspared words (check key evidence) fits none = refl
+unspared words (rebut store evidence) fits none = refl
+unspared words (list store) fits none = refl
+unspared words (sample seed) fits none = refl
+unspared words (retain store into at) fits none = let no : ◌≡◌ {A = Option (List ℕ)} (Some into) None = sym fits.1 ∙ none in absurd cc
+unspared words (roll store key) fits none = refl
+unspared words (enroll store key public endorse) fits none = refl
+unspared words (widen endorse auths into) fits none = refl
+unspared words (narrow key auths public into) fits none = refl
+unspared words (view_at segment count from shown) fits none = refl
+unspared words (view_changes segment at) fits none = refl
+
+-- a job without a spare makes no call on one
+pub no_spare : (words : List (List ℕ)) → spare_of words ≡ None → uses_spare (job_of words) ≡ false
+unfolding job_of value_of
+no_spare [] none = refl
+no_spare (name ∷ words) none = go (job_of (name ∷ words)) (fits_words (name ∷ words)) none
+  where
+    go : (o : Option JobData) → IfSome o (Fits words) → (if is_some o then needed (codes "--into") words else None) ≡ None → uses_spare o ≡ false
+    go None fits none = refl
+    go (Some j) fits none = unspared words j fits none

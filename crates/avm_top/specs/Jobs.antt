@@ -1,6 +1,6 @@
 -- How a job runs and what its status says, by the definitions of its command.
 use Rattle.std.specs.Prelude.{◌≡◌, ◌≢◌, ◌⊎◌, ◌≤◌, ℕ, Bool, true, false, List, [], ◌∷◌, Option, None, Some, IfSome, codes}
-use Rattle.avm_script.specs.Job.{JobData, SignedData, keygen, format, record_job, export, audit, check, rebut, list, roll, enroll, widen, narrow, view_at, view_changes}
+use Rattle.avm_script.specs.Job.{JobData, SignedData, keygen, format, record_job, export, audit, check, rebut, list, retain, roll, enroll, widen, narrow, view_at, view_changes}
 use Rattle.audit_command.specs.Audit.{audit_writes}
 use Rattle.audit_command.specs.Meaning.{AuditMeans, CheckMeans, IsAcceptedLater}
 use Rattle.audit_command.specs.Outcomes.{AuditRuns, CheckRuns}
@@ -47,6 +47,7 @@ uses_disk (Some (record_job store key script packets console auths)) = true
 uses_disk (Some (list store)) = true
 uses_disk (Some (export store from to segment)) = true
 uses_disk (Some (rebut store evidence)) = true
+uses_disk (Some (retain store into at)) = true
 uses_disk (Some (roll store key)) = true
 uses_disk (Some (enroll store key public endorse)) = true
 uses_disk job = false
@@ -55,9 +56,15 @@ uses_disk job = false
 abbrev pub writes_disk : Option JobData → Bool
 writes_disk (Some (format store key config image)) = true
 writes_disk (Some (record_job store key script packets console auths)) = true
+writes_disk (Some (retain store into at)) = true
 writes_disk (Some (roll store key)) = true
 writes_disk (Some (enroll store key public endorse)) = true
 writes_disk job = false
+
+-- the job makes calls on the spare
+abbrev pub uses_spare : Option JobData → Bool
+uses_spare (Some (retain store into at)) = true
+uses_spare job = false
 
 abbrev pub state_asked : ℕ → ℕ → ℕ → StateAsked
 state_asked count from words = record { count = count; from = from; words = words }
@@ -100,6 +107,7 @@ RunsAs (Some (view_at segment count from words)) old new was is images quiet n b
     ViewEnds (ShowsState (state_asked count from words)) (StateOutOfRange (state_asked count from words)) (old segment) n.files_before n.files_now n.out_before n.out_now before after result
 RunsAs (Some (view_changes segment at)) old new was is images quiet n before after result =
     ViewEnds (ShowsChanges at) (ChangesOutOfRange at) (old segment) n.files_before n.files_now n.out_before n.out_now before after result
+RunsAs (Some (retain store into at)) old new was is images quiet n before after result = SameFiles old new × (n.files_now ≡ n.files_before)
 RunsAs (Some (roll store key)) old new was is images quiet n before after result =
     RollEnds (old key) was is images quiet n before after result
 RunsAs (Some (enroll store key public endorse)) old new was is images quiet n before after result =
@@ -127,6 +135,11 @@ MeansAs (Some (enroll store key public endorse)) old new was is images before af
 MeansAs (Some (widen endorse auths into)) old new was is images before after result = WidenMeans endorse auths into old new result
 MeansAs (Some (narrow key auths public into)) old new was is images before after result = NarrowMeans key auths public into old new result
 MeansAs job old new was is images before after result = Unit {0}
+
+-- what is said of a job that moves a store, by the entry from which on it is kept: its lines and its status are here, since they speak of both disks
+abbrev pub WhereRetained : Option JobData → (ℕ → Type 0) → Type 0
+WhereRetained (Some (retain store into at)) P = P at
+WhereRetained job P = Unit {0}
 
 -- What a crash at any moment of a recording leaves, of the files and the disk as they were: an image that stands for a journal of a run of
 -- the script. Images of earlier moments stay.

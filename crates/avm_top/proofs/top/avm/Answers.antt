@@ -1,8 +1,8 @@
 use Rattle.std.proofs.Common.{None, map, string_bytes}
 use Rattle.avm_script.specs.Job.{job_of}
 use Rattle.headline.proofs.Joined.{joined}
-use Rattle.avm_top.proofs.Meant.{audit_means, check_means, format_means, list_means, record_means, recorded, export_means, rebut_means, view_means, changes_means, widen_means, narrow_means, roll_means, enroll_means, evidence_later}
-use Rattle.avm_top.proofs.Names.{no_store}
+use Rattle.avm_top.proofs.Meant.{audit_means, check_means, format_means, list_means, record_means, recorded, export_means, rebut_means, view_means, changes_means, widen_means, narrow_means, roll_means, enroll_means, retained, evidence_later}
+use Rattle.avm_top.proofs.Names.{no_spare, no_store}
 use Rattle.avm_top.proofs.top.avm.Goals as goal
 
 pub returns-clause-audit : goal.returns-clause-audit
@@ -55,3 +55,21 @@ returns-clause-evidence g c = evidence_later (map string_bytes c.args.words.now)
 
 pub returns-clause-disk : goal.returns-clause-disk
 returns-clause-disk g c = λ none. c.act.ensures.quiet (no_store (map string_bytes c.args.words.now) none)
+
+pub returns-clause-retain : goal.returns-clause-retain
+returns-clause-retain g c = retained (job_of (map string_bytes c.args.words.now)) _ c.act.ensures.retain
+
+pub returns-clause-retained : goal.returns-clause-retained
+returns-clause-retained g c = retained (job_of (map string_bytes c.args.words.now)) _ c.act.ensures.retained
+
+pub returns-clause-together : goal.returns-clause-together
+returns-clause-together g c = retained (job_of (map string_bytes c.args.words.now)) _ c.act.ensures.together
+
+pub returns-clause-moved : goal.returns-clause-moved
+returns-clause-moved g c = retained (job_of (map string_bytes c.args.words.now)) _ c.act.ensures.moved
+
+pub returns-clause-kept : goal.returns-clause-kept
+returns-clause-kept g c = retained (job_of (map string_bytes c.args.words.now)) _ c.act.ensures.kept
+
+pub returns-clause-spare : goal.returns-clause-spare
+returns-clause-spare g c = λ none. c.act.ensures.spare_quiet (no_spare (map string_bytes c.args.words.now) none)
