@@ -1,16 +1,9 @@
 //! The program: its words, the files of the system, a file as the store, and standard output.
 #![tactic(auto)]
 
-mod counted;
-mod real_disk;
-mod real_files;
-mod real_sink;
-
 use avm_outside::Sink;
 use avm_top::{avm, spare_word, store_word};
-use real_disk::RealDisk;
-use real_files::RealFiles;
-use real_sink::RealSink;
+use real_outside::{RealDisk, RealFiles, RealSink};
 use std::alloc::AllocError;
 use std::process::ExitCode;
 use std::{env, io};

@@ -1,5 +1,5 @@
 use Rattle.std.proofs.Common.{◌-◌, ◌≤◌, length}
-use Rattle.avm_cli.proofs.real_disk.read_full.Given as goal
+use Rattle.real_outside.proofs.real_disk.read_full.Given as goal
 
 abbrev pub invariant-loop-done : goal.invariant-loop-done
 invariant-loop-done l = l.done ≤ length l.buf
