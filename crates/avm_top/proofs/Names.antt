@@ -115,7 +115,7 @@ sample_apart words = bound (Fits words) (needed (codes "--seed") words) _ (λ te
 
 retain_apart : (words : List (List ℕ)) → IfSome (retain_job words) (Fits words)
 unfolding retain_job
-retain_apart words = bound_by (Fits words) (needed (codes "--store") words) _ (λ store has. bound_by (Fits words) (needed (codes "--into") words) _ (λ into other. bound (Fits words) (needed (codes "--at") words >>= number_of (2 ^ 64)) _ (λ at. if_kept (Fits words) (are_distinct (store ∷ into ∷ [])) _ (λ distinct. (has , other)))))
+retain_apart words = bound_by (Fits words) (needed (codes "--store") words) _ (λ store has. bound_by (Fits words) (needed (codes "--into") words) _ (λ into other. bound (Fits words) (needed (codes "--at") words >>= number_of (2 ^ 64)) _ (λ at. if_kept (Fits words) (are_distinct (store ∷ into ∷ [])) _ (λ distinct. (has, other)))))
 
 roll_apart : (words : List (List ℕ)) → IfSome (roll_job words) (Fits words)
 unfolding roll_job

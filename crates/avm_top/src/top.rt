@@ -79,13 +79,13 @@ pub fn avm<F: Files, D: Disk, E: Disk, S: Sink>(
     ensures changes { (segment : List ℕ) (at : ℕ) → Some (view_changes_job segment at) ≡ job_of (map string_bytes words.now) → ViewMeans (ShowsChanges at) (F.file files.old segment) (S.written out.old) (S.written out.new) result }
     // a store moved to the spare: the line and the status, and what they say of both disks
     ensures retain { (store into : List ℕ) (at : ℕ) → Some (retain_job store into at) ≡ job_of (map string_bytes words.now) → RetainEnds at (record { was = D.seen disk.old; now = D.seen disk.new; images = D.may_leave disk.new }) (record { was = E.seen spare.old; now = E.seen spare.new; images = E.may_leave spare.new })
-            (record { reads = OnlyReads D.seen D.may_leave D.moment D.left_since disk.old disk.new; quiet = spare.new ≡ spare.old; same = E.seen spare.new ≡ E.seen spare.old })
-            (record { disk_before = D.faults disk.old; disk_now = D.faults disk.new; spare_before = E.faults spare.old; spare_now = E.faults spare.new; out_before = S.faults out.old; out_now = S.faults out.new })
-            (S.written out.old) (S.written out.new) result }
+        (record { reads = OnlyReads D.seen D.may_leave D.moment D.left_since disk.old disk.new; quiet = spare.new ≡ spare.old; same = E.seen spare.new ≡ E.seen spare.old })
+        (record { disk_before = D.faults disk.old; disk_now = D.faults disk.new; spare_before = E.faults spare.old; spare_now = E.faults spare.new; out_before = S.faults out.old; out_now = S.faults out.new })
+        (S.written out.old) (S.written out.new) result }
     ensures retained { (store into : List ℕ) (at : ℕ) → Some (retain_job store into at) ≡ job_of (map string_bytes words.now) → RetainMeans at (record { was = D.seen disk.old; now = D.seen disk.new; images = D.may_leave disk.new }) (record { was = E.seen spare.old; now = E.seen spare.new; images = E.may_leave spare.new }) result }
     // at any moment of it at most one of the two opens; and what a crash then leaves of each
     ensures together { (store into : List ℕ) (at : ℕ) → Some (retain_job store into at) ≡ job_of (map string_bytes words.now) → IfSome (D.seen disk.old) (λ was. IfSome (E.seen spare.old) (λ other. ((c e : List ℕ) → D.may_leave disk.old c → E.may_leave spare.old e → IsSafe c e) → (IsUnmarked was → Each (E.may_leave spare.old) IsFree)
-            → RetainsTogether D.moment D.left_since D.may_leave E.moment E.left_since E.may_leave disk.old disk.new spare.old spare.new IsSafe)) }
+        → RetainsTogether D.moment D.left_since D.may_leave E.moment E.left_since E.may_leave disk.old disk.new spare.old spare.new IsSafe)) }
     ensures moved { (store into : List ℕ) (at : ℕ) → Some (retain_job store into at) ≡ job_of (map string_bytes words.now) → IfSome (D.seen disk.old) (λ was. LeavesOnly D.moment D.left_since disk.old disk.new (IsStoreImage at was (D.may_leave disk.old))) }
     ensures kept { (store into : List ℕ) (at : ℕ) → Some (retain_job store into at) ≡ job_of (map string_bytes words.now) → IfSome (D.seen disk.old) (λ was. IfSome (E.seen spare.old) (λ other. (IsUnmarked was → Each (E.may_leave spare.old) IsFree) → LeavesOnly E.moment E.left_since spare.old spare.new (IsSpareImage at was (E.may_leave spare.old)))) }
     ensures roll { (store key : List ℕ) → Some (roll_job store key) ≡ job_of (map string_bytes words.now) → RollMeans (F.file files.old key) (D.seen disk.old) (D.seen disk.new) (D.may_leave disk.new) result }
@@ -119,12 +119,12 @@ fn act<F: Files, D: Disk, E: Disk, S: Sink>(
         (S.written out.old) (S.written out.new) result }
     ensures means { MeansAs (job_of (map string_bytes words.now)) (F.file files.old) (F.file files.new) (D.seen disk.old) (D.seen disk.new) (D.may_leave disk.new) (S.written out.old) (S.written out.new) result }
     ensures retain { WhereRetained (job_of (map string_bytes words.now)) (λ at. RetainEnds at (record { was = D.seen disk.old; now = D.seen disk.new; images = D.may_leave disk.new }) (record { was = E.seen spare.old; now = E.seen spare.new; images = E.may_leave spare.new })
-            (record { reads = OnlyReads D.seen D.may_leave D.moment D.left_since disk.old disk.new; quiet = spare.new ≡ spare.old; same = E.seen spare.new ≡ E.seen spare.old })
-            (record { disk_before = D.faults disk.old; disk_now = D.faults disk.new; spare_before = E.faults spare.old; spare_now = E.faults spare.new; out_before = S.faults out.old; out_now = S.faults out.new })
-            (S.written out.old) (S.written out.new) result) }
+        (record { reads = OnlyReads D.seen D.may_leave D.moment D.left_since disk.old disk.new; quiet = spare.new ≡ spare.old; same = E.seen spare.new ≡ E.seen spare.old })
+        (record { disk_before = D.faults disk.old; disk_now = D.faults disk.new; spare_before = E.faults spare.old; spare_now = E.faults spare.new; out_before = S.faults out.old; out_now = S.faults out.new })
+        (S.written out.old) (S.written out.new) result) }
     ensures retained { WhereRetained (job_of (map string_bytes words.now)) (λ at. RetainMeans at (record { was = D.seen disk.old; now = D.seen disk.new; images = D.may_leave disk.new }) (record { was = E.seen spare.old; now = E.seen spare.new; images = E.may_leave spare.new }) result) }
     ensures together { WhereRetained (job_of (map string_bytes words.now)) (λ at. IfSome (D.seen disk.old) (λ was. IfSome (E.seen spare.old) (λ other. ((c e : List ℕ) → D.may_leave disk.old c → E.may_leave spare.old e → IsSafe c e) → (IsUnmarked was → Each (E.may_leave spare.old) IsFree)
-            → RetainsTogether D.moment D.left_since D.may_leave E.moment E.left_since E.may_leave disk.old disk.new spare.old spare.new IsSafe))) }
+        → RetainsTogether D.moment D.left_since D.may_leave E.moment E.left_since E.may_leave disk.old disk.new spare.old spare.new IsSafe))) }
     ensures moved { WhereRetained (job_of (map string_bytes words.now)) (λ at. IfSome (D.seen disk.old) (λ was. LeavesOnly D.moment D.left_since disk.old disk.new (IsStoreImage at was (D.may_leave disk.old)))) }
     ensures kept { WhereRetained (job_of (map string_bytes words.now)) (λ at. IfSome (D.seen disk.old) (λ was. IfSome (E.seen spare.old) (λ other. (IsUnmarked was → Each (E.may_leave spare.old) IsFree) → LeavesOnly E.moment E.left_since spare.old spare.new (IsSpareImage at was (E.may_leave spare.old))))) }
     ensures left { MomentsAs (job_of (map string_bytes words.now)) (F.file files.old) (D.seen disk.old) (D.moment disk.old) (D.left_since disk.old) (D.left_since disk.new) }
