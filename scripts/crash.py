@@ -88,7 +88,7 @@ def torn(r, before, now):
 def lost(words, files, gaps=False):
     """What was released and stands in no journal of these files. With `gaps` lines may be missing from the console: those that were saved
     when a crash came, which no later run releases."""
-    journals = [j for j in (m.read(journal, files.get(name)) for name in disks(words)) if j]
+    journals = [j for j in (m.read(journal, files[name]) for name in disks(words) if name in files) if j]
     if not journals:
         return ["packets", "console", "auths"] if any(files.get(name) for name in ("packets", "console", "auths")) else []
     pairs = {pair for j in journals for pair in j.bound() | {(s.seq, s.hash) for s in j.signed_frames()}}
